@@ -1,0 +1,2 @@
+-- The balance: the test for 0 and the figures.
+pub mod Sound

@@ -1,0 +1,96 @@
+-- The test for 0 (document 01, "What each operation refuses"): a call gives 0 if the balance handed to it is not sound. Assumes nothing.
+use Prim.Native.Nat.{ℕ, zero, suc, _+_}
+use mathlib.Core.Bool.{Bool, true, false, not, _&&_, _||_}
+use lib.Dec.{eqb, leb, ltb}
+use lib.IntN.{ℤ, pos, negℤ}
+use lib.Signed.{leZ, nonNeg}
+use Rattle.laws.specs.Sum.{every}
+use Rattle.model.specs.declared.Unit.{Unit}
+use Rattle.model.specs.declared.Aquifer.{Aquifer}
+use Rattle.model.specs.declared.Title.{Title}
+use Rattle.model.specs.declared.Title.the-variants.{UnitWithdrawal, AquiferWithdrawal, UnitTransfer, AquiferTransfer}
+use Rattle.model.specs.declared.Place.{Place}
+use Rattle.model.specs.View.{View, termLimit}
+use Rattle.river.specs.Flow.{flow}
+use Rattle.river.specs.Wells.{recharge}
+use Rattle.titles.specs.Adds.{titled}
+use Rattle.titles.specs.declared.Slot.the-variants.{Extraction, Exports, Imports, Returns, WellExtraction}
+
+-- A term runs from 0 to 10,000,000, a storage change from −10,000,000 to 10,000,000.
+abbrev pub isTerm : ℕ → Bool
+isTerm x = leb x termLimit
+
+abbrev pub isStorage : ℤ → Bool
+isStorage z = leZ (negℤ (pos termLimit)) z && leZ z (pos termLimit)
+
+-- A downstream number is 0, or above the unit's own number and at most the last unit's.
+abbrev pub isDownstream : ℕ → ℕ → ℕ → Bool
+isDownstream count j d = eqb d 0 || (ltb (suc j) d && leb d count)
+
+-- Each entry of a unit is in its range, its downstream number is sound, and only an outlet has a commitment.
+abbrev pub soundUnit : ℕ → ℕ → Unit → Bool
+soundUnit count j u =
+    isTerm (u .extraction) && (isTerm (u .exports) && (isTerm (u .imports) && (isTerm (u .returns) && (isTerm (u .evaporation)
+    && (isStorage (u .storage) && (isTerm (u .commitment) && (isTerm (u .runoff)
+    && (isDownstream count j (u .downstream) && (eqb (u .downstream) 0 || eqb (u .commitment) 0)))))))))
+
+-- Each entry of an aquifer is in its range, and its recharge is not negative.
+abbrev pub soundAquifer : Aquifer → Bool
+soundAquifer a =
+    isStorage (a .storage) && (isTerm (a .natural) && (isTerm (a .pumped) && (isTerm (a .committed) && (isTerm (a .extraction)
+    && nonNeg (recharge a)))))
+
+-- A number from 1 to the last.
+abbrev pub exists : ℕ → ℕ → Bool
+exists last n = ltb 0 n && leb n last
+
+-- A volume is not 0 and not above 10,000,000.
+abbrev pub isVolume : ℕ → Bool
+isVolume x = ltb 0 x && isTerm x
+
+-- A title's units, aquifers and use exist, and its volume is one.
+abbrev pub soundTitle : ℕ → ℕ → Title → Bool
+soundTitle units aquifers (UnitWithdrawal u r v) = exists units u && (exists 7 r && isVolume v)
+soundTitle units aquifers (AquiferWithdrawal a v) = exists aquifers a && isVolume v
+soundTitle units aquifers (UnitTransfer g r v) = exists units g && (exists units r && isVolume v)
+soundTitle units aquifers (AquiferTransfer a u v) = exists aquifers a && (exists units u && isVolume v)
+
+abbrev pub soundPlace : ℕ → ℕ → Place → Bool
+soundPlace units aquifers p = not (p .«in_force») || soundTitle units aquifers (p .title)
+
+-- The titles in force do not together exceed the entry that they went into.
+abbrev pub coveredUnit : View → ℕ → Bool
+coveredUnit v j =
+    leb (titled v (v .given) Extraction j) (v .unit j .extraction)
+    && (leb (titled v (v .given) Exports j) (v .unit j .exports)
+    && (leb (titled v (v .given) Imports j) (v .unit j .imports)
+    && leb (titled v (v .given) Returns j) (v .unit j .returns)))
+
+abbrev pub coveredAquifer : View → ℕ → Bool
+coveredAquifer v j = leb (titled v (v .given) WellExtraction j) (v .aquifer j .extraction)
+
+-- The counts are within their limits.
+abbrev pub soundCounts : View → Bool
+soundCounts v = leb (v .units) 64 && (leb (v .aquifers) 32 && leb (v .given) 256)
+
+-- Each unit is sound, and so is each aquifer and each title in force.
+abbrev pub soundUnits : View → Bool
+soundUnits v = every (v .units) (λ j. soundUnit (v .units) j (v .unit j))
+
+abbrev pub soundAquifers : View → Bool
+soundAquifers v = every (v .aquifers) (λ j. soundAquifer (v .aquifer j))
+
+abbrev pub soundTitles : View → Bool
+soundTitles v = every (v .given) (λ k. soundPlace (v .units) (v .aquifers) (v .place k))
+
+-- No flow is negative.
+abbrev pub flowing : View → Bool
+flowing v = every (v .units) (λ j. nonNeg (flow v j))
+
+-- No entry is exceeded by its titles.
+abbrev pub covered : View → Bool
+covered v = every (v .units) (coveredUnit v) && every (v .aquifers) (coveredAquifer v)
+
+-- A sound balance: none of the faults that document 01 lists for 0.
+unfoldable pub sound : View → Bool
+sound v = soundCounts v && (soundUnits v && (soundAquifers v && (flowing v && (soundTitles v && covered v))))

@@ -1,0 +1,6 @@
+pub mod Cases
+pub mod Signs
+pub mod Parts
+pub mod Gathering
+pub mod Arrays
+pub mod Splitting

@@ -1,0 +1,4 @@
+-- What a balance holds, and the view of it that the definitions of the figures and refusals work from.
+pub mod Fresh
+pub mod View
+pub mod Answers

@@ -1,0 +1,3 @@
+pub mod Flows
+pub mod Reserves
+pub mod Aquifers

@@ -1,0 +1,44 @@
+-- The figures of a unit and of an aquifer. Assumes nothing.
+use Prim.Native.Nat.{ℕ, _≤_, _<_}
+use lib.IntN.{pos}
+use Rattle.laws.specs.Signed.{above, below}
+use Rattle.laws.specs.Table.{table}
+use Rattle.model.specs.declared.Aquifer.{Aquifer}
+use Rattle.model.specs.View.{View}
+use Rattle.river.specs.Flow.{flow}
+use Rattle.river.specs.Reserve.{committed, ownReserve, availability}
+use Rattle.river.specs.Wells.{recharge, wellAvailability}
+use Rattle.river.specs.declared.UnitFigures.{UnitFigures}
+use Rattle.river.specs.declared.AquiferFigures.{AquiferFigures}
+use mathlib.Core.List.{List}
+
+-- The four figures of the unit at index j.
+abbrev pub unitFigures : View → ℕ → UnitFigures
+unitFigures v j =
+    record { flow = flow v j; committed = committed v j; reserve = ownReserve v j; availability = availability v j }
+
+abbrev pub noUnitFigures : UnitFigures
+noUnitFigures = record { flow = pos 0; committed = 0; reserve = 0; availability = pos 0 }
+
+-- The two figures of an aquifer, and of the aquifer at index j.
+abbrev pub figuresOf : Aquifer → AquiferFigures
+figuresOf a = record { recharge = recharge a; availability = wellAvailability a }
+
+abbrev pub aquiferFigures : View → ℕ → AquiferFigures
+aquiferFigures v j = figuresOf (v .aquifer j)
+
+abbrev pub noAquiferFigures : AquiferFigures
+noAquiferFigures = record { recharge = pos 0; availability = pos 0 }
+
+-- The figures of all units, and of all aquifers, with 0 in the unused places.
+abbrev pub allUnitFigures : View → List UnitFigures
+allUnitFigures v = table 64 noUnitFigures (v .units) (unitFigures v)
+
+abbrev pub allAquiferFigures : View → List AquiferFigures
+allAquiferFigures v = table 32 noAquiferFigures (v .aquifers) (aquiferFigures v)
+
+-- A view whose aquifers can be worked out: at most 32, with storage changes that can be added up.
+pub record WellsReady (v : View) : Type 0 where
+  pub few : v .aquifers ≤ 32
+  pub rises : (k : ℕ) → k < v .aquifers → above (v .aquifer k .storage) ≤ 10000000
+  pub falls : (k : ℕ) → k < v .aquifers → below (v .aquifer k .storage) ≤ 10000000

@@ -1,0 +1,55 @@
+-- The replies of the passes over the tree that work out the figures. Assumes nothing.
+use Prim.Native.Nat.{ℕ, pred, _+_, _≤_, _<_}
+use mathlib.Core.Path.{_≡_}
+use mathlib.Core.Bool.{cond}
+use mathlib.Core.List.{List}
+use lib.Dec.{eqb}
+use lib.ListN.{length, getD}
+use lib.IntN.{pos, _-ℤ_}
+use Rattle.model.specs.declared.Unit.{Unit}
+use Rattle.model.specs.View.{View}
+use Rattle.river.specs.Flow.{downstream}
+use Rattle.river.specs.Reserve.{inflow, demand, share, runningTotal, committed}
+use Rattle.river.specs.declared.UnitFigures.{UnitFigures}
+
+-- The running total before a unit at its downstream unit; 0 for an outlet.
+abbrev pub runningBefore : View → ℕ → ℕ
+runningBefore v j = cond (eqb (downstream v j) 0) 0 (runningTotal v (pred (downstream v j)) j)
+
+-- The running totals before each unit, and at each unit the total of the units that drain straight into it.
+pub record RunningTotals (v : View) (before arrived : List ℕ) : Type 0 where
+  pub long-before : length before ≡ 64
+  pub long-arrived : length arrived ≡ 64
+  pub each-before : (j : ℕ) → j < v .units → getD before j 0 ≡ runningBefore v j
+  pub each-arrived : (w : ℕ) → w < v .units → getD arrived w 0 ≡ runningTotal v w w
+
+-- The committed volume of each unit, and 0 in the unused places.
+pub record CommittedVolumes (v : View) (r : List ℕ) : Type 0 where
+  pub long : length r ≡ 64
+  pub each : (j : ℕ) → j < v .units → getD r j 0 ≡ committed v j
+  pub rest : (j : ℕ) → v .units ≤ j → getD r j 0 ≡ 0
+
+-- A demand and its running totals that are small enough to be split: the demand of a unit with so much committed, and the total of so
+-- much arrived and its own inflow.
+pub record Splits (u : Unit) (committed arrived : ℕ) : Type 0 where
+  pub promised : committed ≤ 2570000000
+  pub asked : demand u committed ≤ 2610000000
+  pub small : arrived + inflow u ≤ 2610000000
+
+-- What a contributor above, and the unit itself, get of the demand of a unit with so much committed and so much arrived.
+abbrev pub fromBelow : Unit → ℕ → ℕ → ℕ → ℕ → ℕ
+fromBelow w committed arrived before own =
+    cond (eqb (arrived + inflow w) 0) 0 (share (demand w committed) (arrived + inflow w) before (before + own))
+
+abbrev pub fromOwn : Unit → ℕ → ℕ → ℕ
+fromOwn u committed arrived =
+    cond (eqb (arrived + inflow u) 0) (demand u committed) (share (demand u committed) (arrived + inflow u) arrived (arrived + inflow u))
+
+-- The figures of a unit from what is gained and lost at it and above it, what arrives there and what is committed.
+abbrev pub figuresFrom : Unit → ℕ → ℕ → ℕ → ℕ → UnitFigures
+figuresFrom u gained lost arrived committed =
+    record {
+      flow = pos gained -ℤ pos lost;
+      committed = committed;
+      reserve = fromOwn u committed arrived;
+      availability = pos gained -ℤ pos (lost + committed) }

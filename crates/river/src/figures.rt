@@ -1,0 +1,109 @@
+// The figures of all units and aquifers of a balance.
+ghost use mathlib.Core.Path.{_≡_};
+ghost use Prim.Native.Nat.{_≤_};
+ghost use mathlib.Core.Bool.{true, false};
+ghost use Rattle.laws.specs.Signed.{above, below};
+ghost use Rattle.model.specs.View.{viewOf};
+ghost use Rattle.river.specs.Flow.{Ready, Gathered};
+ghost use Rattle.river.specs.Passes.{RunningTotals, CommittedVolumes, Splits, figuresFrom};
+ghost use Rattle.river.specs.Figures as figures;
+use crate::{AquiferFigures, UnitFigures};
+use crate::flow::gathered;
+use crate::reserve::{Totals, committed, from_own, running};
+use model::{Aquifer, Balance, Unit};
+
+// A unit's figures from what it gathers, what arrives and what is committed.
+fn of_unit(u: Unit, gained: u64, lost: u64, arrived: u64, committed: u64) -> UnitFigures
+    requires { ⌜ Splits u committed arrived ⌝ }
+    requires { ⌜ (gained ≤ 2560000000) × (lost ≤ 2560000000) ⌝ }
+    ensures { λ r. ⌜ r ≡ figuresFrom u gained lost arrived committed ⌝ }
+{
+    let flow = laws::difference(gained, lost);
+    let availability = laws::difference(gained, lost + committed);
+    let reserve = from_own(u, committed, arrived);
+    UnitFigures {
+        flow,
+        committed,
+        reserve,
+        availability,
+    }
+}
+
+// Over the units: the figures of each.
+fn of_units(b: Balance, gained: [u64; 64], lost: [u64; 64], run: Totals, volumes: [u64; 64]) -> [UnitFigures; 64]
+    requires { ⌜ Ready (viewOf b) ⌝ }
+    requires { ⌜ Gathered (viewOf b) false gained ⌝ }
+    requires { ⌜ Gathered (viewOf b) true lost ⌝ }
+    requires { ⌜ RunningTotals (viewOf b) (run .before) (run .arrived) ⌝ }
+    requires { ⌜ CommittedVolumes (viewOf b) volumes ⌝ }
+    ensures { λ r. ⌜ r ≡ figures.allUnitFigures (viewOf b) ⌝ }
+{
+    let n = b.unit_count;
+    let arrived = run.arrived;
+    let none = UnitFigures {
+        flow: 0,
+        committed: 0,
+        reserve: 0,
+        availability: 0,
+    };
+    let mut all = [none; 64];
+    let mut i = 0;
+    while i < n {
+        let u = b.units[i];
+        let f = of_unit(u, gained[i], lost[i], arrived[i], volumes[i]);
+        all[i] = f;
+        i += 1;
+    }
+    all
+}
+
+// The figures of every unit of a balance whose passes over the tree are safe.
+pub fn unit_figures(b: Balance) -> [UnitFigures; 64]
+    requires { ⌜ Ready (viewOf b) ⌝ }
+    ensures { λ r. ⌜ r ≡ figures.allUnitFigures (viewOf b) ⌝ }
+{
+    let gained = gathered(b, false);
+    let lost = gathered(b, true);
+    let run = running(b, gained, lost);
+    let volumes = committed(b, gained, lost, run);
+    of_units(b, gained, lost, run, volumes)
+}
+
+// An aquifer's recharge and availability, from what it gains and what it loses.
+fn of_aquifer(a: Aquifer) -> AquiferFigures
+    requires { ⌜ (above (a .storage) ≤ 10000000) × (below (a .storage) ≤ 10000000) ⌝ }
+    ensures { λ r. ⌜ r ≡ figures.figuresOf a ⌝ }
+{
+    let storage = a.storage;
+    let rise = laws::above(storage);
+    let fall = laws::below(storage);
+    let discharge = rise + (a.natural as u64) + (a.pumped as u64);
+    let recharge = laws::difference(discharge, fall);
+    let taken = fall + (a.committed as u64) + (a.extraction as u64);
+    let availability = laws::difference(discharge, taken);
+    AquiferFigures {
+        recharge,
+        availability,
+    }
+}
+
+// The figures of every aquifer of a balance.
+pub fn aquifer_figures(b: Balance) -> [AquiferFigures; 32]
+    requires { ⌜ figures.WellsReady (viewOf b) ⌝ }
+    ensures { λ r. ⌜ r ≡ figures.allAquiferFigures (viewOf b) ⌝ }
+{
+    let n = b.aquifer_count;
+    let none = AquiferFigures {
+        recharge: 0,
+        availability: 0,
+    };
+    let mut all = [none; 32];
+    let mut i = 0;
+    while i < n {
+        let a = b.aquifers[i];
+        let f = of_aquifer(a);
+        all[i] = f;
+        i += 1;
+    }
+    all
+}

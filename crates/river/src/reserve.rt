@@ -1,0 +1,142 @@
+// Committed volume and own reserve: a demand split over running totals.
+ghost use mathlib.Core.Path.{_≡_};
+ghost use Prim.Native.Nat.{_+_, _-_, _≤_, _<_};
+ghost use Rattle.model.specs.View.{viewOf};
+ghost use Rattle.river.specs.Flow.{Ready, Gathered};
+ghost use Rattle.river.specs.Reserve as reserves;
+ghost use Rattle.river.specs.Passes.{RunningTotals, CommittedVolumes, Splits, fromBelow, fromOwn};
+ghost use mathlib.Core.Bool.{true, false, cond};
+ghost use lib.Dec.{eqb};
+use model::{Balance, Unit};
+
+// The running total before each unit at its downstream unit, and at each unit the total of the units that drain straight into it.
+pub struct Totals {
+    pub before: [u64; 64],
+    pub arrived: [u64; 64],
+}
+
+// What a unit contributes to its downstream unit: its flow, or 0 where that is negative.
+fn contribution(gained: u64, lost: u64) -> u64
+    ensures { λ r. ⌜ r ≡ gained - lost ⌝ }
+{
+    if gained < lost {
+        return 0;
+    }
+    gained - lost
+}
+
+// What a unit contributes to itself: natural runoff, returns and imports.
+fn inflow(u: Unit) -> u64
+    ensures { λ r. ⌜ r ≡ reserves.inflow u ⌝ }
+{
+    (u.runoff as u64) + (u.returns as u64) + (u.imports as u64)
+}
+
+// A unit's demand: extraction, exports and committed volume.
+fn demand(u: Unit, committed: u64) -> u64
+    requires { ⌜ committed ≤ 2570000000 ⌝ }
+    ensures { λ r. ⌜ r ≡ reserves.demand u committed ⌝ }
+{
+    (u.extraction as u64) + (u.exports as u64) + committed
+}
+
+// What a contributor gets of a demand: the floor with it less the floor without it.
+fn share(demand: u64, total: u64, without: u64, with: u64) -> u64
+    requires { ⌜ (0 < total) × (demand ≤ 2610000000) × (without ≤ with) × (with ≤ 2610000000) ⌝ }
+    ensures { λ r. ⌜ r ≡ reserves.share demand total without with ⌝ }
+{
+    demand * with / total - demand * without / total
+}
+
+// What a unit above gets of a demand.
+fn share_above(demand: u64, total: u64, before: u64, own: u64) -> u64
+    requires { ⌜ (demand ≤ 2610000000) × (before + own ≤ total) × (total ≤ 2610000000) ⌝ }
+    ensures { λ r. ⌜ r ≡ cond (eqb total 0) 0 (reserves.share demand total before (before + own)) ⌝ }
+{
+    if total == 0 {
+        return 0;
+    }
+    share(demand, total, before, before + own)
+}
+
+// What a unit gets of its own demand.
+fn share_own(demand: u64, total: u64, before: u64) -> u64
+    requires { ⌜ (demand ≤ 2610000000) × (before ≤ total) × (total ≤ 2610000000) ⌝ }
+    ensures { λ r. ⌜ r ≡ cond (eqb total 0) demand (reserves.share demand total before total) ⌝ }
+{
+    if total == 0 {
+        return demand;
+    }
+    share(demand, total, before, total)
+}
+
+// What a unit above gets of the demand of unit w, which has so much committed and to which so much has arrived.
+fn from_below(w: Unit, committed: u64, arrived: u64, before: u64, own: u64) -> u64
+    requires { ⌜ Splits w committed arrived ⌝ }
+    requires { ⌜ before + own ≤ arrived + reserves.inflow w ⌝ }
+    ensures { λ r. ⌜ r ≡ fromBelow w committed arrived before own ⌝ }
+{
+    share_above(demand(w, committed), arrived + inflow(w), before, own)
+}
+
+// What unit u gets of its own demand.
+pub fn from_own(u: Unit, committed: u64, arrived: u64) -> u64
+    requires { ⌜ Splits u committed arrived ⌝ }
+    ensures { λ r. ⌜ r ≡ fromOwn u committed arrived ⌝ }
+{
+    share_own(demand(u, committed), arrived + inflow(u), arrived)
+}
+
+// Forward over the units: what each unit finds at its downstream unit, and leaves there.
+pub fn running(b: Balance, gained: [u64; 64], lost: [u64; 64]) -> Totals
+    requires { ⌜ Ready (viewOf b) ⌝ }
+    requires { ⌜ Gathered (viewOf b) false gained ⌝ }
+    requires { ⌜ Gathered (viewOf b) true lost ⌝ }
+    ensures { λ r. ⌜ RunningTotals (viewOf b) (r .before) (r .arrived) ⌝ }
+{
+    let n = b.unit_count;
+    let mut before = [0u64; 64];
+    let mut arrived = [0u64; 64];
+    let mut i = 0;
+    while i < n {
+        let u = b.units[i];
+        let d = u.downstream as usize;
+        if 0 < d {
+            let k = d - 1;
+            let found = arrived[k];
+            before[i] = found;
+            arrived[k] = found + contribution(gained[i], lost[i]);
+        }
+        i += 1;
+    }
+    Totals { before, arrived }
+}
+
+// Backward over the units: an outlet's committed volume is its commitment, another unit's is its share of the demand below.
+pub fn committed(b: Balance, gained: [u64; 64], lost: [u64; 64], run: Totals) -> [u64; 64]
+    requires { ⌜ Ready (viewOf b) ⌝ }
+    requires { ⌜ Gathered (viewOf b) false gained ⌝ }
+    requires { ⌜ Gathered (viewOf b) true lost ⌝ }
+    requires { ⌜ RunningTotals (viewOf b) (run .before) (run .arrived) ⌝ }
+    ensures { λ r. ⌜ CommittedVolumes (viewOf b) r ⌝ }
+{
+    let n = b.unit_count;
+    let before = run.before;
+    let arrived = run.arrived;
+    let mut volumes = [0u64; 64];
+    let mut i = n;
+    while 0 < i {
+        i -= 1;
+        let u = b.units[i];
+        let d = u.downstream as usize;
+        if 0 < d {
+            let k = d - 1;
+            let w = b.units[k];
+            let own = contribution(gained[i], lost[i]);
+            volumes[i] = from_below(w, volumes[k], arrived[k], before[i], own);
+        } else {
+            volumes[i] = u.commitment as u64;
+        }
+    }
+    volumes
+}

@@ -1,0 +1,36 @@
+-- A gauged year as its gains less its losses, and its bounds. Assumes nothing.
+use Prim.Native.Nat.{ℕ, _+_, _≤_, _<_, _^_}
+use lib.IntN.{ℤ}
+use native.Mathlib.Omega.{arith}
+use Rattle.laws.specs.Signed.{above, below}
+use Rattle.runoff.specs.Year.{gaugedYear, GaugedRange}
+use Rattle.laws.proofs.Parts.{Less, less-pos, less-self, less-plus, less-minus, less-above, less-below}
+
+module _ (outflow inflow extraction exports imports returns evaporation : ℕ) (storage : ℤ) where
+  pub gauged-parts :
+      Less (gaugedYear outflow inflow extraction exports imports returns evaporation storage)
+      (outflow + extraction + exports + evaporation + above storage)
+      (inflow + imports + returns + below storage)
+  gauged-parts =
+      let long =
+      less-plus (less-plus (less-minus (less-minus (less-plus (less-plus (less-minus (less-pos outflow) (less-pos inflow))
+      (less-pos extraction)) (less-pos exports)) (less-pos imports)) (less-pos returns)) (less-pos evaporation)) (less-self storage)
+      in
+      record { parts = omega (arith, long) }
+
+  pub gauged-above :
+      above (gaugedYear outflow inflow extraction exports imports returns evaporation storage)
+      ≤ outflow + extraction + exports + evaporation + above storage
+  gauged-above = less-above gauged-parts
+
+  pub gauged-below :
+      below (gaugedYear outflow inflow extraction exports imports returns evaporation storage)
+      ≤ inflow + imports + returns + below storage
+  gauged-below = less-below gauged-parts
+
+  -- A gauged year of 32-bit numbers is less than 2^35 from 0.
+  pub gauged-within :
+      GaugedRange outflow inflow extraction exports imports returns evaporation storage
+      → (above (gaugedYear outflow inflow extraction exports imports returns evaporation storage) < 2 ^ 35)
+      × (below (gaugedYear outflow inflow extraction exports imports returns evaporation storage) < 2 ^ 35)
+  gauged-within r = (omega (arith, gauged-above), omega (arith, gauged-below))

@@ -1,0 +1,6 @@
+pub mod Table
+pub mod Rain
+pub mod Gauged
+pub mod Rounding
+pub mod Cases
+pub mod Record

@@ -1,0 +1,4 @@
+pub mod Percents
+pub mod Posts
+pub mod Adding
+pub mod Raising

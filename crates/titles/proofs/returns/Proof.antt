@@ -1,0 +1,67 @@
+-- `titles::returns` meets its contract. Assumes nothing.
+use mathlib.Core.Path.{_∙_, ap}
+use borrow.Author.Needs.{needs}
+use Rattle.titles.specs.Posting.{post}
+use Rattle.titles.specs.declared.Slot.the-variants.{Returns}
+use Rattle.titles.proofs.Posts.{by-title}
+use Rattle.titles.proofs.returns.Statement.{statement}
+use Rattle.titles.proofs.returns.Tie as tie
+
+enum-known-title : tie.Need-enum-known-title
+enum-known-title c = search needs
+
+returned-requires : tie.Need-returned-requires
+returned-requires c κs = search needs
+
+post-requires : tie.Need-post-requires
+post-requires c κs = search needs
+
+enum-told : tie.Need-enum-told
+enum-told c = search needs
+
+nothing-requires : tie.Need-nothing-requires
+nothing-requires c κs = search needs
+
+enum-told-2 : tie.Need-enum-told-2
+enum-told-2 c = search needs
+
+nothing-requires-2 : tie.Need-nothing-requires-2
+nothing-requires-2 c κs = search needs
+
+enum-told-3 : tie.Need-enum-told-3
+enum-told-3 c = search needs
+
+nothing-requires-3 : tie.Need-nothing-requires-3
+nothing-requires-3 c κs = search needs
+
+returns : tie.Need-returns
+returns c =
+    by-title Returns (c .post .result) (c .before .before .before .title .given .1)
+    (c .post .ensures ∙ ap (post (c .before .before .before .title .given .0 .0)) (c .before .returned .ensures))
+
+returns-2 : tie.Need-returns-2
+returns-2 c = by-title Returns (c .nothing .result) (c .before .enum-told .given .1) (c .nothing .ensures)
+
+returns-3 : tie.Need-returns-3
+returns-3 c = by-title Returns (c .nothing2 .result) (c .before .enum-told2 .given .1) (c .nothing2 .ensures)
+
+returns-4 : tie.Need-returns-4
+returns-4 c = by-title Returns (c .nothing3 .result) (c .before .enum-told3 .given .1) (c .nothing3 .ensures)
+
+pub returns-spec : {M : Type 1} → statement M
+returns-spec =
+    tie.close
+    (tie.spec
+    enum-known-title
+    returned-requires
+    post-requires
+    enum-told
+    nothing-requires
+    enum-told-2
+    nothing-requires-2
+    enum-told-3
+    nothing-requires-3
+    returns
+    returns-2
+    returns-3
+    returns-4)
