@@ -4,3 +4,4 @@ pub mod Parts
 pub mod Gathering
 pub mod Arrays
 pub mod Splitting
+pub mod Chain

@@ -18,7 +18,7 @@ use mir.Syntax.{w64}
 use mir.Val.{SFits, toZ, ofZ}
 use native.Mathlib.Omega.{arith}
 use borrow.Author.Tests.{ltb-true, ltb-false, leb-true, leb-false, lt-ltb, le-ltb, le-leb, lt-leb}
-use Rattle.laws.specs.Signed.{above, below}
+use Rattle.laws.specs.Signed.{above, below, Roomy}
 use Rattle.laws.proofs.Cases.{by-lt}
 use Rattle.laws.proofs.Signs.{subℕ-lt, subℕ-le, whole}
 
@@ -216,3 +216,7 @@ less-negative {z} p h = by-sign z (λ g. absurd (omega arith)) (λ g k. parts-ne
 -- What `laws::difference` gives.
 pub difference-parts : (r : ℤ) (gains losses : ℕ) → r ≡ pos gains -ℤ pos losses → above r + losses ≡ below r + gains
 difference-parts r gains losses e = omega (arith, minus-parts-of r (pos gains) (pos losses) e)
+
+-- A sum of two numbers that leave room for it fits 64 bits.
+pub plus-fits : (a b : ℤ) → Roomy a b → SFits w64 (a +ℤ b)
+plus-fits a b r = by-sign (a +ℤ b) (λ h. parts-fit (a +ℤ b) (omega (arith, plus-parts a b)) (omega arith)) (λ h k. parts-fit (a +ℤ b) (omega arith) (omega (arith, plus-parts a b)))

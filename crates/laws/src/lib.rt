@@ -1,7 +1,7 @@
 // The few signed steps of the balance. Everything else is worked in natural numbers.
 ghost use mathlib.Core.Path.{_≡_};
 ghost use Prim.Native.Nat.{_<_, _^_};
-ghost use lib.IntN.{pos, _-ℤ_};
+ghost use lib.IntN.{pos, _+ℤ_, _-ℤ_};
 ghost use Rattle.laws.specs.Signed as parts;
 
 // How far z lies above 0.
@@ -41,4 +41,12 @@ pub fn signed32(n: u32) -> i64
         return n as i64;
     }
     (n as i64) - 4294967296
+}
+
+// a + b, of numbers that leave room for the sum.
+pub fn plus(a: i64, b: i64) -> i64
+    requires { ⌜ parts.Roomy a b ⌝ }
+    ensures { λ r. ⌜ r ≡ a +ℤ b ⌝ }
+{
+    a + b
 }

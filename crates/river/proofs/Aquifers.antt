@@ -8,7 +8,7 @@ use Rattle.laws.proofs.Parts.{Less, less-pos, less-self, less-plus, less-minus,
 use Rattle.model.specs.declared.Aquifer.{Aquifer}
 use Rattle.river.specs.Wells.{recharge, wellAvailability}
 
-recharge-parts : (a : Aquifer) → Less (recharge a) (above (a .storage) + a .natural + a .pumped) (below (a .storage))
+pub recharge-parts : (a : Aquifer) → Less (recharge a) (above (a .storage) + a .natural + a .pumped) (below (a .storage))
 recharge-parts a =
     let p = less-plus (less-plus (less-self (a .storage)) (less-pos (a .natural))) (less-pos (a .pumped)) in
     record { parts = omega (arith, p .parts) }

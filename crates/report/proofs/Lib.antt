@@ -1,0 +1,4 @@
+pub mod Decimal
+mod Examples
+pub mod Sign
+pub mod Writing

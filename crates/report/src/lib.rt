@@ -1,0 +1,124 @@
+// The lines that the program prints. Each function puts one line into a lent buffer at a position, and
+// answers the position past it. A line is at most 128 bytes long.
+ghost use Prim.Native.Nat.{_+_, _≤_};
+ghost use mathlib.Core.Path.{_≡_};
+ghost use mathlib.Core.List.{[]};
+ghost use lib.ListN.{length};
+ghost use Rattle.report.specs.Text.{unitLine, aquiferLine, refusedLine, callLine, callGiven, callRefused, callCancelled, Written};
+
+mod piece;
+
+// The size of the buffer.
+pub const ROOM: usize = 1048576;
+
+// A buffer of zeros. Its `ensures` gives only the length.
+pub fn blank() -> [u8; ROOM]
+    ensures { λ r. ⌜ 1048576 ≡ length r ⌝ }
+{
+    [0; ROOM]
+}
+
+// No line. A caller that writes lines in a loop starts from this.
+pub fn no_line(out: &mut [u8; ROOM], at: usize) -> usize
+    requires { ⌜ at ≤ 1048576 ⌝ }
+    ensures { λ r. ⌜ Written 0 (now (out .entry)) at [] (now (out .exit)) r ⌝ }
+{
+    let line: &mut [u8] = out;
+    piece::word(line, at, b"")
+}
+
+// `unit N F C R A`: the unit's number, flow, committed volume, own reserve and availability.
+pub fn unit_line(
+    out: &mut [u8; ROOM],
+    at: usize,
+    number: u64,
+    flow: i64,
+    committed: u64,
+    reserve: u64,
+    availability: i64,
+) -> usize
+    requires { ⌜ at + 128 ≤ 1048576 ⌝ }
+    ensures { λ r. ⌜ Written 128 (now (out .entry)) at (unitLine number flow committed reserve availability) (now (out .exit)) r ⌝ }
+{
+    let line: &mut [u8] = out;
+    let a = piece::word(line, at, b"unit");
+    let b = piece::number(line, a, number);
+    let c = piece::signed(line, b, flow);
+    let d = piece::number(line, c, committed);
+    let e = piece::number(line, d, reserve);
+    let f = piece::signed(line, e, availability);
+    piece::byte(line, f, b'\n')
+}
+
+// `aquifer N R A`: the aquifer's number, recharge and availability.
+pub fn aquifer_line(
+    out: &mut [u8; ROOM],
+    at: usize,
+    number: u64,
+    recharge: i64,
+    availability: i64,
+) -> usize
+    requires { ⌜ at + 128 ≤ 1048576 ⌝ }
+    ensures { λ r. ⌜ Written 128 (now (out .entry)) at (aquiferLine number recharge availability) (now (out .exit)) r ⌝ }
+{
+    let line: &mut [u8] = out;
+    let a = piece::word(line, at, b"aquifer");
+    let b = piece::number(line, a, number);
+    let c = piece::signed(line, b, recharge);
+    let d = piece::signed(line, c, availability);
+    piece::byte(line, d, b'\n')
+}
+
+// `refused N at P`: the refusal's number and its place.
+pub fn refused_line(out: &mut [u8; ROOM], at: usize, number: u64, place: u64) -> usize
+    requires { ⌜ at + 128 ≤ 1048576 ⌝ }
+    ensures { λ r. ⌜ Written 128 (now (out .entry)) at (refusedLine number place) (now (out .exit)) r ⌝ }
+{
+    let line: &mut [u8] = out;
+    let a = piece::word(line, at, b"refused");
+    let b = piece::number(line, a, number);
+    let c = piece::word(line, b, b" at");
+    let d = piece::number(line, c, place);
+    piece::byte(line, d, b'\n')
+}
+
+// `call K given N`: the call's place among the calls and the number of the title.
+pub fn call_given(out: &mut [u8; ROOM], at: usize, k: u64, n: u64) -> usize
+    requires { ⌜ at + 128 ≤ 1048576 ⌝ }
+    ensures { λ r. ⌜ Written 128 (now (out .entry)) at (callGiven k n) (now (out .exit)) r ⌝ }
+{
+    let line: &mut [u8] = out;
+    call_line(line, at, k, b"given", n)
+}
+
+// `call K refused N`: the call's place among the calls and the refusal's number.
+pub fn call_refused(out: &mut [u8; ROOM], at: usize, k: u64, n: u64) -> usize
+    requires { ⌜ at + 128 ≤ 1048576 ⌝ }
+    ensures { λ r. ⌜ Written 128 (now (out .entry)) at (callRefused k n) (now (out .exit)) r ⌝ }
+{
+    let line: &mut [u8] = out;
+    call_line(line, at, k, b"refused", n)
+}
+
+// `call K cancelled N`: the call's place among the calls and the number of the title cancelled.
+pub fn call_cancelled(out: &mut [u8; ROOM], at: usize, k: u64, n: u64) -> usize
+    requires { ⌜ at + 128 ≤ 1048576 ⌝ }
+    ensures { λ r. ⌜ Written 128 (now (out .entry)) at (callCancelled k n) (now (out .exit)) r ⌝ }
+{
+    let line: &mut [u8] = out;
+    call_line(line, at, k, b"cancelled", n)
+}
+
+// `call K W N`: the call's place among the calls, the word for its outcome, and a number.
+fn call_line(line: &mut [u8], at: usize, k: u64, outcome: &[u8], n: u64) -> usize
+    requires { ⌜ length (now outcome) ≤ 80 ⌝ }
+    requires { ⌜ at + 128 ≤ length (now line) ⌝ }
+    ensures { λ r. ⌜ Written 128 (now (line .entry)) at (callLine k (now (outcome .entry)) n) (now (line .exit)) r ⌝ }
+{
+    let a = piece::word(line, at, b"call");
+    let b = piece::number(line, a, k);
+    let c = piece::byte(line, b, b' ');
+    let d = piece::word(line, c, outcome);
+    let e = piece::number(line, d, n);
+    piece::byte(line, e, b'\n')
+}
