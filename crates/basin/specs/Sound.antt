@@ -1,6 +1,6 @@
 -- The test for 0 (document 01, "What each operation refuses"): a call gives 0 if the balance handed to it is not sound. Assumes nothing.
-use Prim.Native.Nat.{ℕ, zero, suc, _+_}
-use mathlib.Core.Bool.{Bool, true, false, not, _&&_, _||_}
+use Prim.Native.Nat.{ℕ, suc}
+use mathlib.Core.Bool.{Bool, not, _&&_, _||_}
 use lib.Dec.{eqb, leb, ltb}
 use lib.IntN.{ℤ, pos, negℤ}
 use lib.Signed.{leZ, nonNeg}
@@ -27,18 +27,26 @@ isStorage z = leZ (negℤ (pos termLimit)) z && leZ z (pos termLimit)
 abbrev pub isDownstream : ℕ → ℕ → ℕ → Bool
 isDownstream count j d = eqb d 0 || (ltb (suc j) d && leb d count)
 
+-- Only an outlet has a commitment.
+abbrev pub isCommitted : ℕ → ℕ → Bool
+isCommitted d x = eqb d 0 || eqb x 0
+
+-- Each volume among a unit's entries is a term.
+abbrev pub soundEntries : Unit → Bool
+soundEntries u =
+    isTerm (u .extraction) && (isTerm (u .exports) && (isTerm (u .imports) && (isTerm (u .returns) && (isTerm (u .evaporation)
+    && (isTerm (u .commitment) && isTerm (u .runoff))))))
+
 -- Each entry of a unit is in its range, its downstream number is sound, and only an outlet has a commitment.
 abbrev pub soundUnit : ℕ → ℕ → Unit → Bool
 soundUnit count j u =
-    isTerm (u .extraction) && (isTerm (u .exports) && (isTerm (u .imports) && (isTerm (u .returns) && (isTerm (u .evaporation)
-    && (isStorage (u .storage) && (isTerm (u .commitment) && (isTerm (u .runoff)
-    && (isDownstream count j (u .downstream) && (eqb (u .downstream) 0 || eqb (u .commitment) 0)))))))))
+    soundEntries u && (isStorage (u .storage) && (isDownstream count j (u .downstream) && isCommitted (u .downstream) (u .commitment)))
 
 -- Each entry of an aquifer is in its range, and its recharge is not negative.
 abbrev pub soundAquifer : Aquifer → Bool
 soundAquifer a =
-    isStorage (a .storage) && (isTerm (a .natural) && (isTerm (a .pumped) && (isTerm (a .committed) && (isTerm (a .extraction)
-    && nonNeg (recharge a)))))
+    isTerm (a .natural) && (isTerm (a .pumped) && (isTerm (a .committed) && (isTerm (a .extraction)
+    && (isStorage (a .storage) && nonNeg (recharge a)))))
 
 -- A number from 1 to the last.
 abbrev pub exists : ℕ → ℕ → Bool
@@ -48,7 +56,7 @@ exists last n = ltb 0 n && leb n last
 abbrev pub isVolume : ℕ → Bool
 isVolume x = ltb 0 x && isTerm x
 
--- A title's units, aquifers and use exist, and its volume is one.
+-- A title's units, aquifers and use exist, and its volume is in its range.
 abbrev pub soundTitle : ℕ → ℕ → Title → Bool
 soundTitle units aquifers (UnitWithdrawal u r v) = exists units u && (exists 7 r && isVolume v)
 soundTitle units aquifers (AquiferWithdrawal a v) = exists aquifers a && isVolume v
@@ -58,13 +66,16 @@ soundTitle units aquifers (AquiferTransfer a u v) = exists aquifers a && (exists
 abbrev pub soundPlace : ℕ → ℕ → Place → Bool
 soundPlace units aquifers p = not (p .«in_force») || soundTitle units aquifers (p .title)
 
+-- The entries of a unit cover what titles add together to its extraction, exports, imports and returns.
+abbrev pub covers : ℕ → ℕ → ℕ → ℕ → Unit → Bool
+covers extraction exports imports returns u =
+    leb extraction (u .extraction) && (leb exports (u .exports) && (leb imports (u .imports) && leb returns (u .returns)))
+
 -- The titles in force do not together exceed the entry that they went into.
 abbrev pub coveredUnit : View → ℕ → Bool
 coveredUnit v j =
-    leb (titled v (v .given) Extraction j) (v .unit j .extraction)
-    && (leb (titled v (v .given) Exports j) (v .unit j .exports)
-    && (leb (titled v (v .given) Imports j) (v .unit j .imports)
-    && leb (titled v (v .given) Returns j) (v .unit j .returns)))
+    covers (titled v (v .given) Extraction j) (titled v (v .given) Exports j) (titled v (v .given) Imports j)
+    (titled v (v .given) Returns j) (v .unit j)
 
 abbrev pub coveredAquifer : View → ℕ → Bool
 coveredAquifer v j = leb (titled v (v .given) WellExtraction j) (v .aquifer j .extraction)

@@ -1,0 +1,17 @@
+// The balance: the test for 0 and the figures.
+mod entries;
+mod places;
+pub mod reply;
+mod test;
+
+use model::Answer;
+use river::AquiferFigures;
+use river::UnitFigures;
+pub use test::sound;
+
+// The reply of reading the figures: the answer, and the figures of each unit and aquifer under its number less one.
+pub struct Figures {
+    pub answer: Answer,
+    pub units: [UnitFigures; 64],
+    pub aquifers: [AquiferFigures; 32],
+}

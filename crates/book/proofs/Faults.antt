@@ -22,11 +22,11 @@ use Rattle.runoff.specs.Year.{gaugedYear}
 use Rattle.runoff.proofs.Gauged.{gauged-parts}
 
 -- A disjunction that fails, by its two sides.
-or-left : (t u : Bool) → t || u ≡ false → t ≡ false
+pub or-left : (t u : Bool) → t || u ≡ false → t ≡ false
 or-left true u e = e
 or-left false u e = refl
 
-or-right : (t u : Bool) → t || u ≡ false → u ≡ false
+pub or-right : (t u : Bool) → t || u ≡ false → u ≡ false
 or-right true u e = absurd (true≢false e)
 or-right false u e = e
 
@@ -34,7 +34,7 @@ pub record StorageWithin (z : ℤ) : Type 0 where
   pub rise : above z ≤ 10000000
   pub fall : below z ≤ 10000000
 
-storage-within : (z : ℤ) → notStorage z ≡ false → StorageWithin z
+pub storage-within : (z : ℤ) → notStorage z ≡ false → StorageWithin z
 storage-within z e =
     record { rise = ltb-false _ _ (or-left (ltb 10000000 (above z)) _ e); fall = ltb-false _ _ (or-right (ltb 10000000 (above z)) _ e) }
 
@@ -78,11 +78,11 @@ less-negative {z} {a} {b} p =
     (λ h. le-ltb a b h ∙ sym (by-sign z (λ g. not-negative z (omega arith)) (λ g k. absurd (omega arith))))
 
 -- A test of a chain that gave 0 did not hold, and neither did those after it.
-record Passed (t : Bool) (rest : ℕ) : Type 0 where
-  not : t ≡ false
-  on : rest ≡ 0
+pub record Passed (t : Bool) (rest : ℕ) : Type 0 where
+  pub not : t ≡ false
+  pub on : rest ≡ 0
 
-pass : (t : Bool) (k rest : ℕ) → cond t (suc k) rest ≡ 0 → Passed t rest
+pub pass : (t : Bool) (k rest : ℕ) → cond t (suc k) rest ≡ 0 → Passed t rest
 pass true k rest e = absurd (omega arith)
 pass false k rest e = record { not = refl; on = e }
 
@@ -171,14 +171,14 @@ gauge-storage outflow inflow terms storage e =
     storage-within storage (or-right terms _ (or-right (ltb 2000000000 inflow) _ (or-right (ltb 2000000000 outflow) _ e)))
 
 -- A gauged year whose fields are inside is small enough to be added up.
-record TermsWithin (a b c d e : ℕ) : Type 0 where
-  first : a ≤ 10000000
-  second : b ≤ 10000000
-  third : c ≤ 10000000
-  fourth : d ≤ 10000000
-  fifth : e ≤ 10000000
+pub record TermsWithin (a b c d e : ℕ) : Type 0 where
+  pub first : a ≤ 10000000
+  pub second : b ≤ 10000000
+  pub third : c ≤ 10000000
+  pub fourth : d ≤ 10000000
+  pub fifth : e ≤ 10000000
 
-terms-within : (a b c d e : ℕ) → termsOutside a b c d e ≡ false → TermsWithin a b c d e
+pub terms-within : (a b c d e : ℕ) → termsOutside a b c d e ≡ false → TermsWithin a b c d e
 terms-within a b c d e q =
     let q₂ = or-right (notTerm a) _ q in
     let q₃ = or-right (notTerm b) _ q₂ in

@@ -1,2 +1,7 @@
 pub mod Faults
 pub mod Steps
+pub mod Facts
+pub mod Growing
+pub mod Ending
+pub mod Finishing
+pub mod Following

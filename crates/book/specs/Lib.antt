@@ -3,3 +3,4 @@ pub mod Bytes
 pub mod Record
 pub mod Fault
 pub mod Reading
+pub mod Opening

@@ -1,8 +1,11 @@
 // The book: reading a description record by record, and opening it as a balance.
 mod bytes;
 mod fault;
+mod opening;
 mod record;
 mod step;
+
+pub use opening::read_book;
 
 // A unit as its book describes it: the offset of its UN mark, the fields of its UN, and of the records after it how many soil records
 // there are, their hectares and weighted hectares, how many years there are and their sum (rain years in 60,000,000ths).

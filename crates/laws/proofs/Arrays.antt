@@ -124,3 +124,25 @@ filled-table n d f count w p =
 pub getD-table : {A : Type 0} (n : ℕ) (d : A) (count : ℕ) (f : ℕ → A) (j : ℕ) → j < count → j < n → getD (table n d count f) j d ≡ f j
 unfolding table
 getD-table n d count f j g h = getD-tabulate n _ d j h ∙ rw (lt-ltb j count g)
+
+-- The table of f is filled so, and tables of what agrees are equal.
+pub table-filled : {A : Type 0} (n : ℕ) (d : A) (count : ℕ) (f : ℕ → A) → count ≤ n → Filled n d f count (table n d count f)
+unfolding table
+table-filled n d count f c =
+    record {
+      long = length-tabulate n _;
+      done = λ j h. getD-tabulate n _ d j (omega arith) ∙ rw (lt-ltb j count h);
+      rest = λ j h.
+        by-lt j n
+        (λ g. getD-tabulate n _ d j g ∙ rw (le-ltb j count h))
+        (λ g. List·getD-eq-default (tabulate n _) d (omega (arith, length-tabulate n (λ k. cond (ltb k count) (f k) d)))) }
+
+pub table-same : {A : Type 0} (n : ℕ) (d : A) (count : ℕ) (f g : ℕ → A) → count ≤ n → ((k : ℕ) → k < count → f k ≡ g k) → table n d count f ≡ table n d count g
+table-same n d count f g c e =
+    let p = table-filled n d count f c in
+    filled-table n d g count (table n d count f) (record { long = p .long; done = λ j h. p .done j h ∙ e j h; rest = p .rest })
+
+pub table-more : {A : Type 0} (n : ℕ) (d : A) (count : ℕ) (f : ℕ → A) (x : A) → count < n → x ≡ f count
+    → set (table n d count f) count x ≡ table n d (suc count) f
+table-more n d count f x c e =
+    filled-table n d f (suc count) (set (table n d count f) count x) (filled-put n d f count (table n d count f) x c e (table-filled n d count f (omega arith)))

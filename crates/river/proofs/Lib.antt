@@ -1,3 +1,4 @@
 pub mod Flows
 pub mod Reserves
 pub mod Aquifers
+pub mod Firsts

@@ -2,10 +2,12 @@
 mod figures;
 mod flow;
 mod reserve;
+mod search;
 
 pub use figures::aquifer_figures;
 pub use figures::unit_figures;
 pub use flow::gathered;
+pub use search::first_negative;
 
 // The four figures of a unit.
 pub struct UnitFigures {

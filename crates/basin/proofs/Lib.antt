@@ -1,0 +1,4 @@
+pub mod Chains
+pub mod Ranges
+pub mod Soundness
+pub mod Replies

@@ -1,0 +1,13 @@
+-- `basin::is_volume` meets its contract. Assumes nothing.
+use Rattle.basin.proofs.Chains.{chain}
+use Rattle.basin.proofs.places.is_volume.Statement.{statement}
+use Rattle.basin.proofs.places.is_volume.Tie as tie
+
+returns : tie.Need-returns
+returns c = search chain depth 24
+
+returns-2 : tie.Need-returns-2
+returns-2 c = search chain depth 24
+
+pub is-volume-spec : {M : Type 1} → statement M
+is-volume-spec = tie.close (tie.spec returns returns-2)

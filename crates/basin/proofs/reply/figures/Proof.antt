@@ -1,0 +1,49 @@
+-- `basin::figures` meets its contract. Assumes nothing.
+use mathlib.Core.Path.{_≡_, sym, _∙_}
+use mathlib.Core.Bool.{true}
+use borrow.Author.Tests.{not-true, not-false}
+use Rattle.model.specs.View.{viewOf}
+use Rattle.basin.specs.Sound.{sound}
+use Rattle.basin.proofs.Soundness.{sound-ready, sound-wells-ready}
+use Rattle.basin.proofs.Replies.{refused-reply, accepted-reply}
+use borrow.Author.Needs.{needs}
+use Rattle.basin.proofs.reply.figures.Statement.{statement}
+use Rattle.basin.proofs.reply.figures.Tie as tie
+
+sound-requires : tie.Need-sound-requires
+sound-requires c κs = search needs
+
+no-units-requires : tie.Need-no-units-requires
+no-units-requires c κs = search needs
+
+no-aquifers-requires : tie.Need-no-aquifers-requires
+no-aquifers-requires c κs = search needs
+
+returns : tie.Need-returns
+returns c =
+    refused-reply _ _ _ (sym (c .before .before .before .sound .ensures) ∙ not-true _ (c .before .before .if1 .taken))
+    (c .before .no-units .ensures) (c .no-aquifers .ensures)
+
+is-sound : (c : tie.Else1) → sound (viewOf (c .before .before .args .b)) ≡ true
+is-sound c = sym (c .before .sound .ensures) ∙ not-false _ (c .if1 .left)
+
+unit-figures-requires : tie.Need-unit-figures-requires
+unit-figures-requires c κs = sound-ready _ (is-sound c)
+
+aquifer-figures-requires : tie.Need-aquifer-figures-requires
+aquifer-figures-requires c κs = sound-wells-ready _ (is-sound (c .before))
+
+returns-2 : tie.Need-returns-2
+returns-2 c = accepted-reply _ _ _ (is-sound (c .before .before)) (c .before .unit-figures .ensures) (c .aquifer-figures .ensures)
+
+pub figures-spec : {M : Type 1} → statement M
+figures-spec =
+    tie.close
+    (tie.spec
+    sound-requires
+    no-units-requires
+    no-aquifers-requires
+    returns
+    unit-figures-requires
+    aquifer-figures-requires
+    returns-2)

@@ -1,0 +1,165 @@
+// The places of the register: titles in force, and what they add together.
+ghost use mathlib.Core.Path.{_≡_};
+ghost use mathlib.Core.Bool.{_&&_};
+ghost use Prim.Native.Nat.{_≤_};
+ghost use Rattle.laws.specs.Sum.{every};
+ghost use Rattle.model.specs.View.{viewOf};
+ghost use Rattle.basin.specs.Sound as sounds;
+use model::Balance;
+use model::Place;
+use model::Title;
+use model::Unit;
+use titles::Slot;
+
+// A number from 1 to the last.
+fn exists(last: usize, number: u8) -> bool
+    ensures { λ r. ⌜ r ≡ sounds.exists last number ⌝ }
+{
+    if number < 1 {
+        return false;
+    }
+    (number as usize) <= last
+}
+
+// A volume is not 0 and not above 10,000,000.
+fn is_volume(volume: u32) -> bool
+    ensures { λ r. ⌜ r ≡ sounds.isVolume volume ⌝ }
+{
+    if volume < 1 {
+        return false;
+    }
+    volume <= Balance::TERM
+}
+
+// Two numbers exist, and the volume is in its range: what a withdrawal from a unit and either transfer ask of their fields.
+fn both_exist(first: usize, a: u8, second: usize, b: u8, volume: u32) -> bool
+    ensures { λ r. ⌜ r ≡ (sounds.exists first a && (sounds.exists second b && sounds.isVolume volume)) ⌝ }
+{
+    if !exists(first, a) {
+        return false;
+    }
+    if !exists(second, b) {
+        return false;
+    }
+    is_volume(volume)
+}
+
+// The same of a withdrawal from an aquifer, which names one number.
+fn one_exists(last: usize, number: u8, volume: u32) -> bool
+    ensures { λ r. ⌜ r ≡ (sounds.exists last number && sounds.isVolume volume) ⌝ }
+{
+    if !exists(last, number) {
+        return false;
+    }
+    is_volume(volume)
+}
+
+// A title's units, aquifers and use exist, and its volume is in its range.
+fn title_sound(t: Title, units: usize, aquifers: usize) -> bool
+    ensures { λ r. ⌜ r ≡ sounds.soundTitle units aquifers t ⌝ }
+{
+    match t {
+        Title::UnitWithdrawal {
+            unit,
+            usage,
+            volume,
+        } => both_exist(units, unit, 7, usage, volume),
+        Title::AquiferWithdrawal { aquifer, volume } => one_exists(aquifers, aquifer, volume),
+        Title::UnitTransfer { from, to, volume } => both_exist(units, from, units, to, volume),
+        Title::AquiferTransfer {
+            aquifer,
+            unit,
+            volume,
+        } => both_exist(aquifers, aquifer, units, unit, volume),
+    }
+}
+
+// A place is sound if its title is, or is not in force.
+fn place_sound(p: Place, units: usize, aquifers: usize) -> bool
+    ensures { λ r. ⌜ r ≡ sounds.soundPlace units aquifers p ⌝ }
+{
+    let title = p.title;
+    let in_force = p.in_force;
+    if in_force {
+        return title_sound(title, units, aquifers);
+    }
+    true
+}
+
+// Every title in force is sound.
+pub fn titles_sound(b: Balance) -> bool
+    requires { ⌜ viewOf b .given ≤ 256 ⌝ }
+    ensures { λ r. ⌜ r ≡ sounds.soundTitles (viewOf b) ⌝ }
+{
+    let units = b.unit_count;
+    let aquifers = b.aquifer_count;
+    let n = b.given;
+    let mut k = 0;
+    while k < n {
+        let p = b.titles[k];
+        if !place_sound(p, units, aquifers) {
+            return false;
+        }
+        k += 1;
+    }
+    true
+}
+
+// The titles of a unit do not together exceed the entries that they went into.
+fn unit_covered(u: Unit, extraction: u64, exports: u64, imports: u64, returns: u64) -> bool
+    ensures { λ r. ⌜ r ≡ sounds.covers extraction exports imports returns u ⌝ }
+{
+    if extraction > (u.extraction as u64) {
+        return false;
+    }
+    if exports > (u.exports as u64) {
+        return false;
+    }
+    if imports > (u.imports as u64) {
+        return false;
+    }
+    returns <= (u.returns as u64)
+}
+
+// No entry of a unit is exceeded by its titles.
+pub fn units_covered(b: Balance) -> bool
+    requires { ⌜ (viewOf b .units ≤ 64) × (viewOf b .given ≤ 256) ⌝ }
+    ensures { λ r. ⌜ r ≡ every (viewOf b .units) (sounds.coveredUnit (viewOf b)) ⌝ }
+{
+    let n = b.unit_count;
+    let given = b.given;
+    let titles = b.titles;
+    let extraction = titles::titled(titles, given, Slot::Extraction);
+    let exports = titles::titled(titles, given, Slot::Exports);
+    let imports = titles::titled(titles, given, Slot::Imports);
+    let returns = titles::titled(titles, given, Slot::Returns);
+    let mut i = 0;
+    while i < n {
+        let u = b.units[i];
+        if !unit_covered(u, extraction[i], exports[i], imports[i], returns[i]) {
+            return false;
+        }
+        i += 1;
+    }
+    true
+}
+
+// No aquifer's extraction is exceeded by its titles.
+pub fn aquifers_covered(b: Balance) -> bool
+    requires { ⌜ (viewOf b .aquifers ≤ 32) × (viewOf b .given ≤ 256) ⌝ }
+    ensures { λ r. ⌜ r ≡ every (viewOf b .aquifers) (sounds.coveredAquifer (viewOf b)) ⌝ }
+{
+    let n = b.aquifer_count;
+    let given = b.given;
+    let titles = b.titles;
+    let extraction = titles::titled(titles, given, Slot::WellExtraction);
+    let mut i = 0;
+    while i < n {
+        let a = b.aquifers[i];
+        if extraction[i] > (a.extraction as u64) {
+            return false;
+        }
+        i += 1;
+    }
+    true
+}

@@ -1,0 +1,54 @@
+// The call that reads the figures.
+ghost use mathlib.Core.Path.{_≡_};
+ghost use lib.ListN.{replicate};
+ghost use Rattle.model.specs.View.{viewOf};
+ghost use Rattle.river.specs.Figures.{noUnitFigures, noAquiferFigures};
+ghost use Rattle.basin.specs.Figures as replies;
+use crate::Figures;
+use crate::test::sound;
+use model::Answer;
+use model::Balance;
+use river::AquiferFigures;
+use river::UnitFigures;
+
+// 0 in every place for units.
+fn no_units() -> [UnitFigures; 64]
+    ensures { λ r. ⌜ r ≡ replicate 64 noUnitFigures ⌝ }
+{
+    let none = UnitFigures {
+        flow: 0,
+        committed: 0,
+        reserve: 0,
+        availability: 0,
+    };
+    [none; 64]
+}
+
+// 0 in every place for aquifers.
+fn no_aquifers() -> [AquiferFigures; 32]
+    ensures { λ r. ⌜ r ≡ replicate 32 noAquiferFigures ⌝ }
+{
+    let none = AquiferFigures {
+        recharge: 0,
+        availability: 0,
+    };
+    [none; 32]
+}
+
+// The figures of every unit and aquifer. A balance that is not sound is refused with 0, and with 0 in every figure.
+pub fn figures(b: Balance) -> Figures
+    ensures { λ r. ⌜ r ≡ replies.figuresReply (viewOf b) ⌝ }
+{
+    if !sound(b) {
+        return Figures {
+            answer: Answer::Refused(0),
+            units: no_units(),
+            aquifers: no_aquifers(),
+        };
+    }
+    Figures {
+        answer: Answer::Accepted,
+        units: river::unit_figures(b),
+        aquifers: river::aquifer_figures(b),
+    }
+}
