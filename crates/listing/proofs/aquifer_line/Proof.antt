@@ -1,0 +1,31 @@
+use mir.Syntax.{w64}
+use mir.Val.{SFits}
+use native.Mathlib.Numerals.{add-one}
+use Rattle.laws.proofs.Signs.{whole}
+use Rattle.report.specs.Text.{aquiferLine}
+use Rattle.report.proofs.Writing.{restate}
+use borrow.Author.Needs.{needs}
+use Rattle.listing.proofs.aquifer_line.Statement.{statement}
+use Rattle.listing.proofs.aquifer_line.Tie as tie
+use Rattle.listing.proofs.aquifer_line.Reads as reads
+use Rattle.listing.proofs.aquifer_line.Lts as lts
+use Rattle.report.proofs.aquifer_line.Reads as aquifer-line-reads
+
+-- src/lib.rt:62:35
+add-aquifer-line : tie.Need-add-aquifer-line
+add-aquifer-line c = search needs
+
+-- src/lib.rt:62:5
+aquifer-line-requires : tie.Need-aquifer-line-requires
+aquifer-line-requires c κs = search needs
+
+-- src/lib.rt:56:1
+returns : tie.Need-returns
+returns c =
+    let start = c .before .before .before .before in
+    let f : SFits w64 (start .args .f .recharge) = search needs in
+    let g : SFits w64 (start .args .f .availability) = search needs in
+    restate (c .aquifer-line .ensures) (λ i. aquiferLine (add-one (start .args .k) i) (whole (start .args .f .recharge) f i) (whole (start .args .f .availability) g i))
+
+pub aquifer-line-spec : {M : Type 1} → statement M
+aquifer-line-spec = tie.close (tie.spec add-aquifer-line aquifer-line-requires returns)

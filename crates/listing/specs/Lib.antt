@@ -1,0 +1,2 @@
+-- What the program prints for a book.
+pub mod Listing
