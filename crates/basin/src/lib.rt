@@ -7,6 +7,8 @@ mod test;
 use model::Answer;
 use river::AquiferFigures;
 use river::UnitFigures;
+pub use places::exists;
+pub use places::is_volume;
 pub use test::sound;
 
 // The reply of reading the figures: the answer, and the figures of each unit and aquifer under its number less one.

@@ -12,7 +12,7 @@ use model::Unit;
 use titles::Slot;
 
 // A number from 1 to the last.
-fn exists(last: usize, number: u8) -> bool
+pub fn exists(last: usize, number: u8) -> bool
     ensures { λ r. ⌜ r ≡ sounds.exists last number ⌝ }
 {
     if number < 1 {
@@ -22,7 +22,7 @@ fn exists(last: usize, number: u8) -> bool
 }
 
 // A volume is not 0 and not above 10,000,000.
-fn is_volume(volume: u32) -> bool
+pub fn is_volume(volume: u32) -> bool
     ensures { λ r. ⌜ r ≡ sounds.isVolume volume ⌝ }
 {
     if volume < 1 {

@@ -63,7 +63,7 @@ fn aquifer_line(out: &mut [u8; ROOM], at: usize, k: usize, f: AquiferFigures) ->
 }
 
 // The table of a balance: its units and then its aquifers.
-pub fn table(out: &mut [u8; ROOM], at: usize, b: Balance) -> usize
+fn table(out: &mut [u8; ROOM], at: usize, b: Balance) -> usize
     requires { ⌜ at + 12288 ≤ 1048576 ⌝ }
     ensures { λ r. ⌜ Written 12288 (now (out .entry)) at (text.tableText (viewOf b)) (now (out .exit)) r ⌝ }
 {

@@ -1,0 +1,5 @@
+pub mod Raising
+pub mod Negative
+pub mod Granting
+pub mod Posting
+pub mod Replies

@@ -1,0 +1,117 @@
+// Granting a title: the test for 0, the early refusals, and 17 with the title in.
+ghost use mathlib.Core.Path.{_≡_};
+ghost use mathlib.Core.Bool.{true};
+ghost use lib.ListN.{length};
+ghost use Rattle.model.specs.View.{viewOf};
+ghost use Rattle.model.specs.Answers.{number};
+ghost use Rattle.model.specs.declared.Title.the-variants.{UnitWithdrawal, AquiferWithdrawal, UnitTransfer, AquiferTransfer};
+ghost use Rattle.basin.specs.Sound as sounds;
+ghost use Rattle.register.specs.Reply as replies;
+ghost use Rattle.register.specs.Steps as steps;
+use crate::Reply;
+use crate::effect::post;
+use crate::refusal::early;
+use crate::water::no_water;
+use model::{Answer, Aquifer, Balance, Place, Title, Unit};
+
+// Three arrays have their full length.
+fn lengths(units: [Unit; 64], aquifers: [Aquifer; 32], titles: [Place; 256]) -> bool
+    ensures { λ r. ⌜ (length units ≡ 64) × (length aquifers ≡ 32) × (length titles ≡ 256) ⌝ }
+{
+    true
+}
+
+// The arrays of a balance have their full length.
+fn sized(b: Balance) -> bool
+    ensures { λ r. ⌜ steps.Sized b ⌝ }
+{
+    let units = b.units;
+    let aquifers = b.aquifers;
+    let titles = b.titles;
+    lengths(units, aquifers, titles)
+}
+
+// A refused call hands back the old balance, and 0 as the title's number.
+fn refused(b: Balance, code: u8) -> Reply
+    ensures { λ r. ⌜ r ≡ replies.replied (number code) b b 0 ⌝ }
+{
+    Reply {
+        answer: Answer::Refused(code),
+        number: 0,
+        balance: b,
+    }
+}
+
+// The reply to a grant that no early refusal meets: 17, or the balance with the title in.
+fn settle(b: Balance, t: Title) -> Reply
+    requires { ⌜ (sounds.sound (viewOf b) ≡ true) × (steps.earlyNumber (viewOf b) t ≡ 0) ⌝ }
+    ensures { λ r. ⌜ r ≡ replies.grantReply b t ⌝ }
+{
+    let n = b.given;
+    let _ = sized(b);
+    let new = post(b, t);
+    if no_water(new, t) {
+        return refused(b, 17);
+    }
+    Reply {
+        answer: Answer::Accepted,
+        number: (n as u16) + 1,
+        balance: new,
+    }
+}
+
+// The reply to a grant, on every balance.
+fn grant(b: Balance, t: Title) -> Reply
+    ensures { λ r. ⌜ r ≡ replies.grantReply b t ⌝ }
+{
+    if !basin::sound(b) {
+        return refused(b, 0);
+    }
+    let number = early(b, t);
+    if 0 < number {
+        return refused(b, number);
+    }
+    settle(b, t)
+}
+
+// GU: a withdrawal from a unit.
+pub fn withdraw(b: Balance, unit: u8, usage: u8, volume: u32) -> Reply
+    ensures { λ r. ⌜ r ≡ replies.grantReply b (UnitWithdrawal unit usage volume) ⌝ }
+{
+    grant(
+        b,
+        Title::UnitWithdrawal {
+            unit,
+            usage,
+            volume,
+        },
+    )
+}
+
+// GA: a withdrawal from an aquifer.
+pub fn pump(b: Balance, aquifer: u8, volume: u32) -> Reply
+    ensures { λ r. ⌜ r ≡ replies.grantReply b (AquiferWithdrawal aquifer volume) ⌝ }
+{
+    grant(b, Title::AquiferWithdrawal { aquifer, volume })
+}
+
+// TU: a transfer from a unit to a unit.
+pub fn transfer(b: Balance, from: u8, to: u8, volume: u32) -> Reply
+    ensures { λ r. ⌜ r ≡ replies.grantReply b (UnitTransfer from to volume) ⌝ }
+{
+    grant(b, Title::UnitTransfer { from, to, volume })
+}
+
+// TA: a transfer from an aquifer to a unit.
+pub fn bring(b: Balance, aquifer: u8, unit: u8, volume: u32) -> Reply
+    ensures { λ r. ⌜ r ≡ replies.grantReply b (AquiferTransfer aquifer unit volume) ⌝ }
+{
+    grant(
+        b,
+        Title::AquiferTransfer {
+            aquifer,
+            unit,
+            volume,
+        },
+    )
+}
