@@ -5,10 +5,10 @@ pub mod reply;
 mod test;
 
 use model::Answer;
-use river::AquiferFigures;
-use river::UnitFigures;
 pub use places::exists;
 pub use places::is_volume;
+use river::AquiferFigures;
+use river::UnitFigures;
 pub use test::sound;
 
 // The reply of reading the figures: the answer, and the figures of each unit and aquifer under its number less one.

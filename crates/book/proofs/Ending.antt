@@ -1,8 +1,8 @@
 -- The end of a description. Assumes nothing.
-use Prim.Native.Nat.{ℕ, suc, _+_, _≤_, _<_}
-use mathlib.Core.Path.{_≡_, refl, sym, ap, _∙_}
+use Prim.Native.Nat.{ℕ, _+_, _<_}
+use mathlib.Core.Path.{_≡_, sym, ap, _∙_}
 use mathlib.Core.Bool.{not}
-use lib.Dec.{eqb, ltb}
+use lib.Dec.{ltb}
 use lib.Signed.{nonNeg}
 use native.Mathlib.Numerals.{add-one}
 use borrow.Author.Tests.{ltb-false}
@@ -25,7 +25,8 @@ ready-of v b e =
       within = λ k h. ltb-false (v .units) (downstream v k) (nothing-passed (λ j. ltb (v .units) (downstream v j)) (v .units) e k h);
       gains = b .gains;
       losses = b .losses;
-      commitments = b .commitments }
+      commitments = b .commitments;
+    }
 
 pub missing-below : (v : View) (j : ℕ) → missing v ≡ At j → j < v .units
 missing-below v j e = at-first (λ j. ltb (v .units) (downstream v j)) (v .units) j e .0

@@ -1,6 +1,6 @@
 -- What holds of the records that reading accepts. Assumes nothing.
-use Prim.Native.Nat.{ℕ, zero, suc, _+_, _-_, _*_, _≤_, _<_}
-use mathlib.Core.Path.{_≡_, refl, sym, ap, _∙_}
+use Prim.Native.Nat.{ℕ, suc, _+_, _-_, _*_, _≤_, _<_}
+use mathlib.Core.Path.{_≡_, sym}
 use mathlib.Core.Logic.{_⊎_, inl, inr}
 use mathlib.Core.Bool.{Bool, true, false, cond, _&&_, _||_, true≢false}
 use mathlib.Core.List.{List}
@@ -9,9 +9,9 @@ use lib.Dec.{eqb, ltb, leb}
 use lib.IntN.{ℤ, pos, _+ℤ_}
 use lib.Signed.{ltZ}
 use native.Mathlib.Omega.{arith}
-use borrow.Author.Tests.{ltb-true, ltb-false, leb-true, leb-false, eqb-true, eqb-false, lt-ltb, le-ltb, eq-eqb, ne-eqb}
+use borrow.Author.Tests.{ltb-false, leb-false, lt-ltb, le-ltb, eq-eqb, ne-eqb}
 use Rattle.laws.specs.Signed.{above, below}
-use Rattle.laws.proofs.Cases.{by-lt, by-bool, by-eq}
+use Rattle.laws.proofs.Cases.{by-lt, by-eq}
 use Rattle.laws.proofs.Parts.{plus-parts, by-sign, ltZ-false}
 use Rattle.model.specs.declared.Aquifer.{Aquifer}
 use Rattle.river.specs.Wells.{recharge}
@@ -26,10 +26,10 @@ use Rattle.book.specs.declared.Mark.the-variants.{Un, Su, Pr, Af, Ac, Ca
 use Rattle.book.specs.declared.Next.{Next}
 use Rattle.book.specs.declared.Next.the-variants.{Ends, Refused, Opens, Grows, Adds}
 use Rattle.book.specs.Bytes.{bits8, bits16, bits32}
-use Rattle.book.specs.Record.{unitRecord, withSoil, withYear, rainOf, gaugeOf, aquiferRecord, isGauged, markOf}
-use Rattle.book.specs.Fault.{Sane, Closed, YearRange, closingFault, badGauge, notTerm, notStorage, termsOutside, strayCommitment, unitOutside, notOnward, unitFault, soilFault, rainFault, gaugeFault, aquiferOutside, aquiferFault}
+use Rattle.book.specs.Record.{unitRecord, withSoil, withYear, aquiferRecord, isGauged, markOf}
+use Rattle.book.specs.Fault.{Sane, Closed, YearRange, closingFault, badGauge, notTerm, termsOutside, strayCommitment, unitOutside, notOnward, unitFault, soilFault, rainFault, gaugeFault, aquiferOutside, aquiferFault}
 use Rattle.book.specs.Reading.{unless, whole, unitStep, soilStep, rainStep, gaugeStep, gaugeOutsideAt, aquiferStep, marked, next}
-use Rattle.book.proofs.Faults.{Passed, pass, or-left, or-right, StorageWithin, storage-within, TermsWithin, terms-within, AquiferWithin, aquifer-within, soil-clean, rain-clean, gauge-clean, range-at}
+use Rattle.book.proofs.Faults.{pass, or-left, or-right, StorageWithin, storage-within, terms-within, AquiferWithin, aquifer-within, soil-clean, rain-clean, gauge-clean, range-at}
 
 -- The fields of the unit at index k are inside their values, and it drains onward.
 pub record Fine (k : ℕ) (u : UnitRecord) : Type 0 where
@@ -83,16 +83,18 @@ unit-clean units aquifers u e =
       room = leb-false 64 units (p₂ .not);
       before = omega (arith, ltb-false 0 aquifers (p₁ .not));
       fine =
-        record {
-          extraction = t .first;
-          exports = t .second;
-          imports = t .third;
-          returns = t .fourth;
-          evaporation = t .fifth;
-          commitment = ltb-false _ _ (or-left (notTerm (u .commitment)) _ o₁);
-          storage = storage-within (u .storage) (or-right (strayCommitment (u .downstream) (u .commitment)) _ o₂);
-          inner = unstray (u .downstream) (u .commitment) (or-left (strayCommitment (u .downstream) (u .commitment)) _ o₂);
-          onward = goes-on (u .downstream) units (p₄ .not) } }
+          record {
+            extraction = t .first;
+            exports = t .second;
+            imports = t .third;
+            returns = t .fourth;
+            evaporation = t .fifth;
+            commitment = ltb-false _ _ (or-left (notTerm (u .commitment)) _ o₁);
+            storage = storage-within (u .storage) (or-right (strayCommitment (u .downstream) (u .commitment)) _ o₂);
+            inner = unstray (u .downstream) (u .commitment) (or-left (strayCommitment (u .downstream) (u .commitment)) _ o₂);
+            onward = goes-on (u .downstream) units (p₄ .not);
+          };
+    }
 
 -- What an AC without a fault satisfies.
 pub record AquiferClean (aquifers : ℕ) (a : Aquifer) : Type 0 where
@@ -145,7 +147,8 @@ year-sane u year s h r =
       weight = s .weight;
       short = omega arith;
       gains = omega (arith, above-plus (u .sum) year, s .gains, r .gain);
-      losses = omega (arith, below-plus (u .sum) year, s .losses, r .loss) }
+      losses = omega (arith, below-plus (u .sum) year, s .losses, r .loss);
+    }
 
 soil-sane : (u : UnitRecord) (cover soil hectares : ℕ) → Sane u → u .soils < 16 → Known cover soil → u .hectares + hectares ≤ 300000
     → Sane (withSoil u cover soil hectares)
@@ -156,7 +159,8 @@ soil-sane u cover soil hectares s h k a =
       weight = omega (arith, s .weight, weighted-within cover soil hectares k);
       short = s .short;
       gains = s .gains;
-      losses = s .losses }
+      losses = s .losses;
+    }
 
 keep-soil : (u : UnitRecord) (cover soil hectares : ℕ) (k : ℕ) → Fine k u → Fine k (withSoil u cover soil hectares)
 keep-soil u cover soil hectares k f =
@@ -169,7 +173,8 @@ keep-soil u cover soil hectares k f =
       commitment = f .commitment;
       storage = f .storage;
       inner = f .inner;
-      onward = f .onward }
+      onward = f .onward;
+    }
 
 keep-year : (u : UnitRecord) (year : ℤ) (k : ℕ) → Fine k u → Fine k (withYear u year)
 keep-year u year k f =
@@ -182,7 +187,8 @@ keep-year u year k f =
       commitment = f .commitment;
       storage = f .storage;
       inner = f .inner;
-      onward = f .onward }
+      onward = f .onward;
+    }
 
 -- What holds of each thing that a record does.
 pub record OpensFacts (s : List ℕ) (u : UnitRecord) (units aquifers : ℕ) (v : UnitRecord) (to : ℕ) : Type 0 where
@@ -211,11 +217,11 @@ Facts s u units aquifers (Adds a to) = AddsFacts s u units aquifers a to
 
 -- What holds of a refusal and, where there is no fault, of what goes on holds of both together.
 module _ (P : Next → Type 0) (no : (n p : ℕ) → P (Refused n p)) where
-  through-unless : (fault place : ℕ) (go : Next) → (fault ≡ 0 → P go) → P (unless fault place go)
+  pub through-unless : (fault place : ℕ) (go : Next) → (fault ≡ 0 → P go) → P (unless fault place go)
   through-unless fault place go f =
       by-eq fault 0 (λ e. rw (eq-eqb fault 0 e) (f e)) (λ e. rw (ne-eqb fault 0 e) (no fault place))
 
-  through-whole : (s : List ℕ) (at size : ℕ) (go : Next) → (size ≤ length s - at → P go) → P (whole s at size go)
+  pub through-whole : (s : List ℕ) (at size : ℕ) (go : Next) → (size ≤ length s - at → P go) → P (whole s at size go)
   through-whole s at size go f =
       by-lt (length s - at) size (λ h. rw (lt-ltb (length s - at) size h) (no 1 at)) (λ h. rw (le-ltb (length s - at) size h) (f h))
 
@@ -227,57 +233,61 @@ module _ (s : List ℕ) (at : ℕ) (u : UnitRecord) (units aquifers : ℕ) (star
   unit-facts =
       through-whole (Facts s u units aquifers) no s at 31 _
       (λ h. through-unless (Facts s u units aquifers) no (closingFault units u) (u .at) _
-        (λ e. through-unless (Facts s u units aquifers) no (unitFault units aquifers (unitRecord s at)) at _
-          (λ g.
-            record {
-              closing = e;
-              clean = unit-clean units aquifers (unitRecord s at) g;
-              sane = record { few = omega arith; area = omega arith; weight = omega arith; short = omega arith; gains = omega arith; losses = omega arith };
-              within = omega arith })))
+      (λ e. through-unless (Facts s u units aquifers) no (unitFault units aquifers (unitRecord s at)) at _
+      (λ g.
+      record {
+        closing = e;
+        clean = unit-clean units aquifers (unitRecord s at) g;
+        sane = record { few = omega arith; area = omega arith; weight = omega arith; short = omega arith; gains = omega arith; losses = omega arith };
+        within = omega arith;
+      })))
 
   soil-facts : Facts s u units aquifers (soilStep s at u units aquifers)
   soil-facts =
       through-whole (Facts s u units aquifers) no s at 8 _
       (λ h. through-unless (Facts s u units aquifers) no (soilFault units aquifers u (bits8 s (at + 2)) (bits8 s (at + 3)) (bits32 s (at + 4))) at _
-        (λ e.
-          let c = soil-clean units aquifers u (bits8 s (at + 2)) (bits8 s (at + 3)) (bits32 s (at + 4)) e in
-          record {
-            after = c .after;
-            sane = soil-sane u _ _ _ sane (c .room) (c .known) (c .area);
-            kept = keep-soil u _ _ _;
-            within = omega arith }))
+      (λ e.
+      let c = soil-clean units aquifers u (bits8 s (at + 2)) (bits8 s (at + 3)) (bits32 s (at + 4)) e in
+      record {
+        after = c .after;
+        sane = soil-sane u _ _ _ sane (c .room) (c .known) (c .area);
+        kept = keep-soil u _ _ _;
+        within = omega arith;
+      }))
 
   rain-facts : Facts s u units aquifers (rainStep s at u units aquifers)
   rain-facts =
       through-whole (Facts s u units aquifers) no s at 4 _
       (λ h. through-unless (Facts s u units aquifers) no (rainFault units aquifers u (bits16 s (at + 2))) at _
-        (λ e.
-          let c = rain-clean units aquifers u (bits16 s (at + 2)) e in
-          let range : RainRange (u .hectares) (u .weighted) (bits16 s (at + 2)) = record { areaTo = sane .area; weightedTo = sane .weight; rainTo = c .most } in
-          record {
-            after = c .after;
-            sane = year-sane u _ sane (c .room) (record { gain = omega (arith, rain-within (u .hectares) (u .weighted) (bits16 s (at + 2)) range); loss = omega arith });
-            kept = keep-year u _;
-            within = omega arith }))
+      (λ e.
+      let c = rain-clean units aquifers u (bits16 s (at + 2)) e in
+      let range : RainRange (u .hectares) (u .weighted) (bits16 s (at + 2)) = record { areaTo = sane .area; weightedTo = sane .weight; rainTo = c .most } in
+      record {
+        after = c .after;
+        sane = year-sane u _ sane (c .room) (record { gain = omega (arith, rain-within (u .hectares) (u .weighted) (bits16 s (at + 2)) range); loss = omega arith });
+        kept = keep-year u _;
+        within = omega arith;
+      }))
 
   gauge-facts : Facts s u units aquifers (gaugeStep s at u units aquifers)
   gauge-facts =
       through-whole (Facts s u units aquifers) no s at 34 _
       (λ h. through-unless (Facts s u units aquifers) no (gaugeFault units aquifers u (gaugeOutsideAt s at)) at _
-        (λ e.
-          let c = gauge-clean units aquifers u (gaugeOutsideAt s at) e in
-          record {
-            after = c .after;
-            sane = year-sane u _ sane (c .room) (range-at s at (c .inside));
-            kept = keep-year u _;
-            within = omega arith }))
+      (λ e.
+      let c = gauge-clean units aquifers u (gaugeOutsideAt s at) e in
+      record {
+        after = c .after;
+        sane = year-sane u _ sane (c .room) (range-at s at (c .inside));
+        kept = keep-year u _;
+        within = omega arith;
+      }))
 
   aquifer-facts : Facts s u units aquifers (aquiferStep s at u units aquifers)
   aquifer-facts =
       through-whole (Facts s u units aquifers) no s at 22 _
       (λ h. through-unless (Facts s u units aquifers) no (closingFault units u) (u .at) _
-        (λ e. through-unless (Facts s u units aquifers) no (aquiferFault aquifers (aquiferRecord s at)) at _
-          (λ g. record { closing = e; clean = aquifer-clean aquifers (aquiferRecord s at) g; within = omega arith })))
+      (λ e. through-unless (Facts s u units aquifers) no (aquiferFault aquifers (aquiferRecord s at)) at _
+      (λ g. record { closing = e; clean = aquifer-clean aquifers (aquiferRecord s at) g; within = omega arith })))
 
   mark-facts : (m : Mark) → Facts s u units aquifers (marked m s at u units aquifers)
   mark-facts Un = unit-facts
@@ -294,6 +304,6 @@ module _ (s : List ℕ) (at : ℕ) (u : UnitRecord) (units aquifers : ℕ) (star
       by-eq (length s - at) 0
       (λ e. rw (eq-eqb (length s - at) 0 e) tt)
       (λ e. rw (ne-eqb (length s - at) 0 e)
-        (by-eq (length s - at) 1
-          (λ g. rw (eq-eqb (length s - at) 1 g) tt)
-          (λ g. rw (ne-eqb (length s - at) 1 g) (mark-facts (markOf (bits8 s at) (bits8 s (at + 1)))))))
+      (by-eq (length s - at) 1
+      (λ g. rw (eq-eqb (length s - at) 1 g) tt)
+      (λ g. rw (ne-eqb (length s - at) 1 g) (mark-facts (markOf (bits8 s at) (bits8 s (at + 1)))))))

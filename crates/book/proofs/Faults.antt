@@ -1,19 +1,19 @@
 -- What a field that is not outside its values satisfies. Assumes nothing.
-use Prim.Native.Nat.{ℕ, zero, suc, _+_, _*_, _≤_, _<_}
-use mathlib.Core.Path.{_≡_, refl, sym, ap, _∙_}
-use mathlib.Core.Bool.{Bool, true, false, cond, _&&_, _||_, true≢false}
+use Prim.Native.Nat.{ℕ, suc, _+_, _≤_, _<_}
+use mathlib.Core.Path.{_≡_, refl, sym, _∙_}
+use mathlib.Core.Bool.{Bool, true, false, cond, _||_, true≢false}
 use lib.Dec.{eqb, ltb, leb}
 use lib.IntN.{ℤ, pos, negsuc}
 use lib.Signed.{ltZ}
 use native.Mathlib.Omega.{arith}
-use borrow.Author.Tests.{ltb-true, ltb-false, leb-true, leb-false, eqb-true, eqb-false, lt-ltb, le-ltb}
+use borrow.Author.Tests.{ltb-false, leb-false, eqb-false, lt-ltb, le-ltb}
 use Rattle.laws.specs.Signed.{above, below}
-use Rattle.laws.proofs.Cases.{by-lt, by-bool}
-use Rattle.laws.proofs.Parts.{Less, parts-ltZ, parts-not-ltZ, less-above, less-below, by-sign}
+use Rattle.laws.proofs.Cases.{by-lt}
+use Rattle.laws.proofs.Parts.{Less, less-above, less-below, by-sign}
 use Rattle.model.specs.declared.Aquifer.{Aquifer}
 use Rattle.book.specs.declared.UnitRecord.{UnitRecord}
 use Rattle.runoff.specs.Soil.{Known}
-use Rattle.book.specs.Fault.{notTerm, notStorage, termsOutside, strayCommitment, unitOutside, aquiferOutside, badGauge, soilOutside, soilFault, rainFault, gaugeOutsideBy, gaugeOutside, gaugeFault, YearRange}
+use Rattle.book.specs.Fault.{notTerm, notStorage, termsOutside, aquiferOutside, soilOutside, soilFault, rainFault, gaugeOutsideBy, gaugeOutside, gaugeFault, YearRange}
 use mathlib.Core.List.{List}
 use Rattle.book.specs.Bytes.{bits32, signedBits32}
 use Rattle.book.specs.Record.{gaugeOf}
@@ -55,7 +55,8 @@ aquifer-within a e =
       pumped = ltb-false _ _ (or-left (notTerm (a .pumped)) _ e₁);
       committed = ltb-false _ _ (or-left (notTerm (a .committed)) _ e₂);
       extraction = ltb-false _ _ (or-left (notTerm (a .extraction)) _ e₃);
-      storage = storage-within (a .storage) (or-right (notTerm (a .extraction)) _ e₃) }
+      storage = storage-within (a .storage) (or-right (notTerm (a .extraction)) _ e₃);
+    }
 
 -- Negative by its part below 0.
 pub negative-below : (z : ℤ) → 0 < below z → ltZ z (pos 0) ≡ true
@@ -114,12 +115,14 @@ soil-clean units aquifers u cover soil hectares e =
       fresh = omega (arith, ltb-false 0 (u .years) (p₃ .not));
       room = leb-false 16 (u .soils) (p₄ .not);
       known =
-        record {
-          coverFrom = ltb-false cover 1 (or-left (ltb cover 1) _ o₁);
-          coverTo = ltb-false 14 cover (or-left (ltb 14 cover) _ o₂);
-          soilFrom = ltb-false soil 1 (or-left (ltb soil 1) _ o₃);
-          soilTo = ltb-false 3 soil (or-left (ltb 3 soil) _ o₄) };
-      area = ltb-false 300000 (u .hectares + hectares) (p₆ .not) }
+          record {
+            coverFrom = ltb-false cover 1 (or-left (ltb cover 1) _ o₁);
+            coverTo = ltb-false 14 cover (or-left (ltb 14 cover) _ o₂);
+            soilFrom = ltb-false soil 1 (or-left (ltb soil 1) _ o₃);
+            soilTo = ltb-false 3 soil (or-left (ltb 3 soil) _ o₄);
+          };
+      area = ltb-false 300000 (u .hectares + hectares) (p₆ .not);
+    }
 
 pub record RainClean (units aquifers : ℕ) (u : UnitRecord) (mm : ℕ) : Type 0 where
   pub after : (units ≡ 0 → ⊥)
@@ -141,7 +144,8 @@ rain-clean units aquifers u mm e =
       before = omega (arith, ltb-false 0 aquifers (p₁ .not));
       soiled = eqb-false (u .soils) 0 (p₃ .not);
       room = leb-false 50 (u .years) (p₄ .not);
-      most = ltb-false 2150 mm (p₆ .not) }
+      most = ltb-false 2150 mm (p₆ .not);
+    }
 
 pub record GaugeClean (units aquifers : ℕ) (u : UnitRecord) (outside : Bool) : Type 0 where
   pub after : (units ≡ 0 → ⊥)
@@ -163,7 +167,8 @@ gauge-clean units aquifers u outside e =
       before = omega (arith, ltb-false 0 aquifers (p₁ .not));
       bare = omega (arith, ltb-false 0 (u .soils) (p₃ .not));
       room = leb-false 50 (u .years) (p₄ .not);
-      inside = p₅ .not }
+      inside = p₅ .not;
+    }
 
 -- What the parts of an AF's storage satisfy, if no field is outside.
 pub gauge-storage : (outflow inflow : ℕ) (terms : Bool) (storage : ℤ) → gaugeOutsideBy outflow inflow terms storage ≡ false → StorageWithin storage
@@ -188,7 +193,8 @@ terms-within a b c d e q =
       second = ltb-false _ _ (or-left (notTerm b) _ q₂);
       third = ltb-false _ _ (or-left (notTerm c) _ q₃);
       fourth = ltb-false _ _ (or-left (notTerm d) _ q₄);
-      fifth = ltb-false _ _ (or-right (notTerm d) _ q₄) }
+      fifth = ltb-false _ _ (or-right (notTerm d) _ q₄);
+    }
 
 pub gauge-range : (outflow inflow extraction exports imports returns evaporation : ℕ) (storage : ℤ)
     → gaugeOutside outflow inflow extraction exports imports returns evaporation storage ≡ false

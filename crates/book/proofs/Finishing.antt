@@ -1,34 +1,30 @@
 -- The end of a description, from the balance under construction, is the end that the definition gives. Assumes nothing.
-use Prim.Native.Nat.{ℕ, zero, suc, _+_, _-_, _≤_, _<_}
+use Prim.Native.Nat.{ℕ, zero, suc, _+_, _≤_, _<_}
 use mathlib.Core.Path.{_≡_, refl, sym, ap, _∙_, subst⁻¹}
 use mathlib.Core.Logic.{_⊎_}
-use mathlib.Core.Bool.{Bool, true, false, not}
-use mathlib.Core.List.{List, []}
-use lib.Dec.{eqb, ltb}
+use mathlib.Core.Bool.{Bool, not}
+use mathlib.Core.List.{[]}
+use lib.Dec.{ltb}
 use lib.Signed.{nonNeg}
 use lib.ListN.{length, getD}
 use native.Mathlib.Omega.{arith}
 use borrow.Author.Tests.{eq-eqb, ne-eqb}
-use Rattle.laws.specs.Signed.{above, below}
 use Rattle.laws.proofs.Cases.{by-eq, by-bool}
 use Rattle.laws.proofs.Arrays.{getD-table}
 use Rattle.model.specs.declared.Unit.{Unit}
-use Rattle.model.specs.declared.Aquifer.{Aquifer}
 use Rattle.model.specs.declared.Balance.{Balance}
 use Rattle.model.specs.declared.Found.{Found}
 use Rattle.model.specs.declared.Found.the-variants.{At, Nothing}
 use Rattle.model.specs.Answers.{firstFrom, first}
 use Rattle.model.specs.Fresh.{emptyUnit, emptyAquifer}
-use Rattle.model.specs.View.{View, viewOf}
+use Rattle.model.specs.View.{viewOf}
 use Rattle.river.specs.Flow.{downstream, flow, gain, loss}
-use Rattle.runoff.specs.Mean.{naturalRunoff}
 use Rattle.runoff.proofs.Rounding.{natural-within}
 use Rattle.book.specs.declared.UnitRecord.{UnitRecord}
-use Rattle.book.specs.declared.Opened.{Opened}
 use Rattle.book.specs.Record.{unitOf, noUnit, isGauged}
 use Rattle.book.specs.Fault.{Closed, closingFault}
-use Rattle.book.specs.Reading.{Description, lastUnit, balanceOf, Outcome, read, refused, faultAt, ended, openedAs}
-use Rattle.book.specs.Opening.{draft, fullOf, missing, negative, unlessAt, refusedWith, testedWith, endedWith, Bounded, EndReady}
+use Rattle.book.specs.Reading.{Description, lastUnit, balanceOf, Outcome, read, faultAt, ended, openedAs}
+use Rattle.book.specs.Opening.{draft, missing, negative, unlessAt, testedWith, endedWith, Bounded, EndReady}
 use Rattle.book.proofs.Facts.{Fine, closing-clean}
 use Rattle.book.proofs.Growing.{Good, all-closed, full-is}
 
@@ -62,13 +58,13 @@ opened-fault n Nothing o = refl
 tested-is : (d : Description) (at : ℕ) → Good d
     → testedWith (balanceOf d) at
     ≡ openedAs (faultAt 8 (first (length (d .units)) (λ j. ltb (length (d .units)) (getD (d .units) j noUnit .downstream)))
-      (faultAt 10 (first (length (d .units)) (λ j. not (nonNeg (flow (viewOf (balanceOf d)) j)))) (read d at)))
+    (faultAt 10 (first (length (d .units)) (λ j. not (nonNeg (flow (viewOf (balanceOf d)) j)))) (read d at)))
 tested-is d at good =
     (λ i. unlessAt 8 (same i) (unlessAt 10 (negative (viewOf (balanceOf d))) (openedAs (read d at))))
     ∙ ap (unlessAt 8 (first (length (d .units)) (λ j. ltb (length (d .units)) (getD (d .units) j noUnit .downstream))))
-      (sym (opened-fault 10 (negative (viewOf (balanceOf d))) (read d at)))
+    (sym (opened-fault 10 (negative (viewOf (balanceOf d))) (read d at)))
     ∙ sym (opened-fault 8 (first (length (d .units)) (λ j. ltb (length (d .units)) (getD (d .units) j noUnit .downstream)))
-      (faultAt 10 (negative (viewOf (balanceOf d))) (read d at)))
+    (faultAt 10 (negative (viewOf (balanceOf d))) (read d at)))
   where
     same : missing (viewOf (balanceOf d)) ≡ first (length (d .units)) (λ j. ltb (length (d .units)) (getD (d .units) j noUnit .downstream))
     same = first-same (length (d .units)) _ _ (λ k h. ap (λ (u : Unit). ltb (length (d .units)) (u .downstream)) (unit-at d good k h))
@@ -90,12 +86,19 @@ bounded-is d good e =
       onward = λ k h. subst⁻¹ (λ (u : Unit). (u .downstream ≡ 0) ⊎ (suc k < u .downstream)) (unit-at d good k h) (good .fine k h .onward);
       gains = λ k h. subst⁻¹ (λ (u : Unit). gain u ≤ 40000000) (unit-at d good k h) (gains k (good .fine k h) (all-closed d good [] e k h));
       losses = λ k h. subst⁻¹ (λ (u : Unit). loss u ≤ 40000000) (unit-at d good k h) (losses k (good .fine k h));
-      commitments = λ k h. subst⁻¹ (λ (u : Unit). u .commitment ≤ 10000000) (unit-at d good k h) (good .fine k h .commitment) }
+      commitments = λ k h. subst⁻¹ (λ (u : Unit). u .commitment ≤ 10000000) (unit-at d good k h) (good .fine k h .commitment);
+    }
   where
     gains : (k : ℕ) → {u : UnitRecord} → Fine k u → Closed u → gain (unitOf u) ≤ 40000000
     gains k {u} f c =
-        omega (arith, f .imports, f .returns, f .storage .fall,
-          natural-within (isGauged u) (u .years) (u .sum) (omega (arith, c .enough)) (c .mean))
+        omega (
+          arith,
+          f .imports,
+          f .returns,
+          f .storage .fall,
+          natural-within (isGauged u) (u .years) (u .sum) (omega (arith, c .enough)) (c .mean),
+        )
+
     losses : (k : ℕ) → {u : UnitRecord} → Fine k u → loss (unitOf u) ≤ 40000000
     losses k f = omega (arith, f .exports, f .extraction, f .evaporation, f .storage .rise)
 
@@ -105,4 +108,5 @@ end-ready d good =
       room = good .few;
       sane = good .sane;
       full = λ e. subst⁻¹ (λ (b : Balance). Bounded (viewOf b)) (full-is d good) (bounded-is d good e);
-      closed = λ e n. closing-clean (length (d .units)) (lastUnit d) e n (good .sane) }
+      closed = λ e n. closing-clean (length (d .units)) (lastUnit d) e n (good .sane);
+    }

@@ -1,47 +1,45 @@
 -- The loop of opening follows the definition of reading. Assumes nothing.
-use Prim.Native.Nat.{ℕ, zero, suc, _+_, _-_, _≤_, _<_}
+use Prim.Native.Nat.{ℕ, suc, _+_, _-_, _≤_, _<_}
 use mathlib.Core.Path.{_≡_, refl, sym, ap, _∙_, subst, subst⁻¹}
 use mathlib.Core.List.{List, [], _∷_, _++_}
-use lib.ListN.{length, getD, set, length-set, length-append, replicate}
+use lib.ListN.{length, getD, set, length-set, replicate}
 use lib.Seq.{getD-set-same}
 use native.Mathlib.Omega.{arith}
 use Rattle.laws.proofs.Arrays.{filled-start, filled-table}
-use Rattle.model.specs.declared.Unit.{Unit}
 use Rattle.model.specs.declared.Aquifer.{Aquifer}
 use Rattle.model.specs.declared.Balance.{Balance}
 use Rattle.model.specs.Fresh.{emptyUnit, emptyAquifer, emptyPlace, freshBalance}
 use Rattle.book.specs.declared.UnitRecord.{UnitRecord}
 use Rattle.book.specs.declared.Next.{Next}
 use Rattle.book.specs.declared.Next.the-variants.{Ends, Refused, Opens, Grows, Adds}
-use Rattle.book.specs.declared.Opened.{Opened}
 use Rattle.book.specs.Record.{unitOf, noUnit}
-use Rattle.book.specs.Reading.{Description, lastUnit, withUnit, withLast, withAquifer, Outcome, refused, ended, next, readingFrom, reading, openedAs, opened}
+use Rattle.book.specs.Reading.{Description, lastUnit, withUnit, withLast, withAquifer, refused, ended, next, readingFrom, reading, openedAs, opened}
 use Rattle.book.specs.Opening.{putAquifer, stored, draft, refusedWith, endedWith, EndReady}
-use Rattle.book.proofs.Facts.{Facts, OpensFacts, GrowsFacts, AddsFacts, next-facts}
+use Rattle.book.proofs.Facts.{Facts, OpensFacts, next-facts}
 use Rattle.book.proofs.Growing.{Good, good-start, good-unit, good-last, good-aquifer, draft-unit, draft-last, draft-aquifer, snoc-length, snoc-last}
 use Rattle.book.proofs.Finishing.{ended-is, end-ready}
 
 -- One record more of the definition of reading, by what it does.
 module _ (f : ℕ) (s : List ℕ) (at : ℕ) (d : Description) where
-  from-ends : next s at (lastUnit d) (length (d .units)) (length (d .aquifers)) ≡ Ends → readingFrom (suc f) s at d ≡ ended d at
+  pub from-ends : next s at (lastUnit d) (length (d .units)) (length (d .aquifers)) ≡ Ends → readingFrom (suc f) s at d ≡ ended d at
   unfolding readingFrom
   from-ends e = rw (e, readingFrom)
 
-  from-refused : (n p : ℕ) → next s at (lastUnit d) (length (d .units)) (length (d .aquifers)) ≡ Refused n p → readingFrom (suc f) s at d ≡ refused n p
+  pub from-refused : (n p : ℕ) → next s at (lastUnit d) (length (d .units)) (length (d .aquifers)) ≡ Refused n p → readingFrom (suc f) s at d ≡ refused n p
   unfolding readingFrom
   from-refused n p e = rw (e, readingFrom)
 
-  from-opens : (u : UnitRecord) (to : ℕ) → next s at (lastUnit d) (length (d .units)) (length (d .aquifers)) ≡ Opens u to
+  pub from-opens : (u : UnitRecord) (to : ℕ) → next s at (lastUnit d) (length (d .units)) (length (d .aquifers)) ≡ Opens u to
       → readingFrom (suc f) s at d ≡ readingFrom f s to (withUnit d u)
   unfolding readingFrom
   from-opens u to e = rw (e, readingFrom)
 
-  from-grows : (u : UnitRecord) (to : ℕ) → next s at (lastUnit d) (length (d .units)) (length (d .aquifers)) ≡ Grows u to
+  pub from-grows : (u : UnitRecord) (to : ℕ) → next s at (lastUnit d) (length (d .units)) (length (d .aquifers)) ≡ Grows u to
       → readingFrom (suc f) s at d ≡ readingFrom f s to (withLast d u)
   unfolding readingFrom
   from-grows u to e = rw (e, readingFrom)
 
-  from-adds : (a : Aquifer) (to : ℕ) → next s at (lastUnit d) (length (d .units)) (length (d .aquifers)) ≡ Adds a to
+  pub from-adds : (a : Aquifer) (to : ℕ) → next s at (lastUnit d) (length (d .units)) (length (d .aquifers)) ≡ Adds a to
       → readingFrom (suc f) s at d ≡ readingFrom f s to (withAquifer d a)
   unfolding readingFrom
   from-adds a to e = rw (e, readingFrom)
@@ -67,15 +65,17 @@ reached-start s =
       wells = refl;
       last = refl;
       held = λ i.
-        record {
-          units = filled-table 64 emptyUnit (λ k. unitOf (getD [] k noUnit)) 0 (replicate 64 emptyUnit) (filled-start 64 emptyUnit _) i;
-          «unit_count» = 0;
-          aquifers = filled-table 32 emptyAquifer (λ k. getD [] k emptyAquifer) 0 (replicate 32 emptyAquifer) (filled-start 32 emptyAquifer _) i;
-          «aquifer_count» = 0;
-          titles = replicate 256 emptyPlace;
-          given = 0 };
+          record {
+            units = filled-table 64 emptyUnit (λ k. unitOf (getD [] k noUnit)) 0 (replicate 64 emptyUnit) (filled-start 64 emptyUnit _) i;
+            «unit_count» = 0;
+            aquifers = filled-table 32 emptyAquifer (λ k. getD [] k emptyAquifer) 0 (replicate 32 emptyAquifer) (filled-start 32 emptyAquifer _) i;
+            «aquifer_count» = 0;
+            titles = replicate 256 emptyPlace;
+            given = 0;
+          };
       within = omega arith;
-      same = refl }
+      same = refl;
+    }
 
 module _ (s : List ℕ) (b : Balance) (unit : UnitRecord) (units aquifers at left : ℕ) (r : Reached s b unit units aquifers at left) (more : 0 < left) where
   -- What the loop finds is what the definition finds.
@@ -120,7 +120,8 @@ module _ (s : List ℕ) (b : Balance) (unit : UnitRecord) (units aquifers at lef
         last = sym (snoc-last (x .units) v noUnit (length (x .units ++ (v ∷ [])) - 1) (omega (arith, snoc-length (x .units) v noUnit)));
         held = (λ i. stored (r .held i) (r .last i) (r .count i)) ∙ sym (draft-unit x (r .good) v (f .clean .room));
         within = f .within;
-        same = sym (from-opens (left - 1) s at x v to (found (Opens v to) e)) ∙ allowed }
+        same = sym (from-opens (left - 1) s at x v to (found (Opens v to) e)) ∙ allowed;
+      }
 
   pub reached-grows : (v : UnitRecord) (to : ℕ) → next s at unit units aquifers ≡ Grows v to → Reached s b v units aquifers to (left - 1)
   reached-grows v to e =
@@ -133,10 +134,11 @@ module _ (s : List ℕ) (b : Balance) (unit : UnitRecord) (units aquifers at lef
         count = r .count ∙ sym (length-set (x .units) (length (x .units) - 1) v);
         wells = r .wells;
         last = sym ((λ i. getD (set (x .units) (length (x .units) - 1) v) (length-set (x .units) (length (x .units) - 1) v i - 1) noUnit)
-          ∙ getD-set-same (x .units) (length (x .units) - 1) v noUnit some);
+            ∙ getD-set-same (x .units) (length (x .units) - 1) v noUnit some);
         held = r .held ∙ sym (draft-last x (r .good) v);
         within = f .within;
-        same = sym (from-grows (left - 1) s at x v to (found (Grows v to) e)) ∙ allowed }
+        same = sym (from-grows (left - 1) s at x v to (found (Grows v to) e)) ∙ allowed;
+      }
 
   pub adds-room : (a : Aquifer) (to : ℕ) → next s at unit units aquifers ≡ Adds a to → aquifers < 32
   adds-room a to e = omega (arith, r .wells, facts (Adds a to) e .clean .room)
@@ -154,7 +156,8 @@ module _ (s : List ℕ) (b : Balance) (unit : UnitRecord) (units aquifers at lef
         last = r .last;
         held = (λ i. putAquifer (r .held i) (r .wells i) a) ∙ sym (draft-aquifer x (r .good) a (f .clean .room));
         within = f .within;
-        same = sym (from-adds (left - 1) s at x a to (found (Adds a to) e)) ∙ allowed }
+        same = sym (from-adds (left - 1) s at x a to (found (Adds a to) e)) ∙ allowed;
+      }
 
 -- With no records left to allow, reading gives 1.
 pub reached-over : (s : List ℕ) (b : Balance) (unit : UnitRecord) (units aquifers at : ℕ) → Reached s b unit units aquifers at 0

@@ -1,8 +1,8 @@
 -- A description grows record by record, and the balance under construction with it. Assumes nothing.
-use Prim.Native.Nat.{ℕ, zero, suc, _+_, _-_, _≤_, _<_}
-use mathlib.Core.Path.{_≡_, refl, sym, ap, _∙_, subst}
+use Prim.Native.Nat.{ℕ, suc, _-_, _≤_, _<_}
+use mathlib.Core.Path.{_≡_, refl, sym, ap, _∙_}
 use mathlib.Core.List.{List, [], _∷_, _++_}
-use lib.ListN.{length, getD, set, length-set, length-append, List·getD-append, List·getD-eq-default}
+use lib.ListN.{length, getD, set, length-set, length-append, List·getD-append}
 use lib.Seq.{getD-append-seam, getD-set-same, getD-set-other}
 use native.Mathlib.Omega.{arith}
 use borrow.Author.Tests.{eq-eqb, ne-eqb}
@@ -12,12 +12,12 @@ use Rattle.laws.proofs.Arrays.{table-same, table-more}
 use Rattle.model.specs.declared.Unit.{Unit}
 use Rattle.model.specs.declared.Aquifer.{Aquifer}
 use Rattle.model.specs.declared.Balance.{Balance}
-use Rattle.model.specs.Fresh.{emptyUnit, emptyAquifer, emptyPlace}
+use Rattle.model.specs.Fresh.{emptyUnit, emptyAquifer}
 use Rattle.book.specs.declared.UnitRecord.{UnitRecord}
 use Rattle.book.specs.Record.{unitOf, noUnit}
 use Rattle.book.specs.Fault.{Sane, Closed, closingFault}
 use Rattle.book.specs.Reading.{Description, lastUnit, withUnit, withLast, withAquifer, balanceOf}
-use Rattle.book.specs.Opening.{putUnit, putAquifer, counted, stored, fullOf, draft}
+use Rattle.book.specs.Opening.{putAquifer, counted, stored, fullOf, draft}
 use Rattle.book.proofs.Facts.{Fine, WellFine, OpensFacts, GrowsFacts, AddsFacts, closing-clean}
 
 -- One element more at the end of a list.
@@ -48,7 +48,8 @@ good-start =
       fine = λ k h. absurd (omega arith);
       closed = λ k h. absurd (omega arith);
       sane = record { few = omega arith; area = omega arith; weight = omega arith; short = omega arith; gains = omega arith; losses = omega arith };
-      wells = λ k h. absurd (omega arith) }
+      wells = λ k h. absurd (omega arith);
+    }
 
 module _ (d : Description) (good : Good d) (s : List ℕ) where
   -- Once the open unit closes, every unit is closed.
@@ -57,8 +58,8 @@ module _ (d : Description) (good : Good d) (s : List ℕ) where
       by-lt (suc k) (length (d .units))
       (λ g. good .closed k g)
       (λ g.
-        let q : k ≡ length (d .units) - 1 = omega arith in
-        rw q (closing-clean (length (d .units)) (lastUnit d) e (omega arith) (good .sane)))
+      let q : k ≡ length (d .units) - 1 = omega arith in
+      rw q (closing-clean (length (d .units)) (lastUnit d) e (omega arith) (good .sane)))
 
   pub good-unit : (v : UnitRecord) (to : ℕ) → OpensFacts s (lastUnit d) (length (d .units)) (length (d .aquifers)) v to → Good (withUnit d v)
   good-unit v to f =
@@ -68,12 +69,13 @@ module _ (d : Description) (good : Good d) (s : List ℕ) where
         few = omega (arith, l, f .clean .room);
         many = good .many;
         fine = λ k h.
-          by-eq k (length us)
-          (λ e. rw (snoc-last us v noUnit k e, e) (f .clean .fine))
-          (λ e. rw (snoc-before us v noUnit k (omega (arith, l))) (good .fine k (omega (arith, l))));
+            by-eq k (length us)
+            (λ e. rw (snoc-last us v noUnit k e, e) (f .clean .fine))
+            (λ e. rw (snoc-before us v noUnit k (omega (arith, l))) (good .fine k (omega (arith, l))));
         closed = λ k h. rw (snoc-before us v noUnit k (omega (arith, l))) (all-closed (f .closing) k (omega (arith, l)));
         sane = rw (snoc-last us v noUnit (length (us ++ (v ∷ [])) - 1) (omega (arith, l))) (f .sane);
-        wells = good .wells }
+        wells = good .wells;
+      }
 
   pub good-last : (v : UnitRecord) (to : ℕ) → GrowsFacts s (lastUnit d) (length (d .units)) v to → Good (withLast d v)
   good-last v to f =
@@ -85,12 +87,13 @@ module _ (d : Description) (good : Good d) (s : List ℕ) where
         few = omega (arith, l, good .few);
         many = good .many;
         fine = λ k h.
-          by-eq k i
-          (λ e. rw (e, getD-set-same us i v noUnit some) (f .kept i (good .fine i some)))
-          (λ e. rw (getD-set-other us i k v noUnit e) (good .fine k (omega (arith, l))));
+            by-eq k i
+            (λ e. rw (e, getD-set-same us i v noUnit some) (f .kept i (good .fine i some)))
+            (λ e. rw (getD-set-other us i k v noUnit e) (good .fine k (omega (arith, l))));
         closed = λ k h. rw (getD-set-other us i k v noUnit (omega (arith, l))) (good .closed k (omega (arith, l)));
         sane = rw (l, getD-set-same us i v noUnit some) (f .sane);
-        wells = good .wells }
+        wells = good .wells;
+      }
 
   pub good-aquifer : (a : Aquifer) (to : ℕ) → AddsFacts s (lastUnit d) (length (d .units)) (length (d .aquifers)) a to → Good (withAquifer d a)
   good-aquifer a to f =
@@ -103,9 +106,10 @@ module _ (d : Description) (good : Good d) (s : List ℕ) where
         closed = good .closed;
         sane = good .sane;
         wells = λ k h.
-          by-eq k (length ws)
-          (λ e. rw (snoc-last ws a emptyAquifer k e) (f .clean .fine))
-          (λ e. rw (snoc-before ws a emptyAquifer k (omega (arith, l))) (good .wells k (omega (arith, l)))) }
+            by-eq k (length ws)
+            (λ e. rw (snoc-last ws a emptyAquifer k e) (f .clean .fine))
+            (λ e. rw (snoc-before ws a emptyAquifer k (omega (arith, l))) (good .wells k (omega (arith, l))));
+      }
 
 -- The units and aquifers that a description gives, by their index.
 abbrev unitAt : Description → ℕ → Unit
@@ -123,7 +127,8 @@ withUnits b us =
       aquifers = b .aquifers;
       «aquifer_count» = b .«aquifer_count»;
       titles = b .titles;
-      given = b .given }
+      given = b .given;
+    }
 
 abbrev withWells : Balance → List Aquifer → Balance
 withWells b ws =
@@ -133,7 +138,8 @@ withWells b ws =
       aquifers = ws;
       «aquifer_count» = b .«aquifer_count»;
       titles = b .titles;
-      given = b .given }
+      given = b .given;
+    }
 
 -- The open unit put in completes the table of units.
 units-stored : (d : Description) → length (d .units) ≤ 64
@@ -141,14 +147,15 @@ units-stored : (d : Description) → length (d .units) ≤ 64
 units-stored d h =
     by-eq (length (d .units)) 0
     (λ e. rw (eq-eqb (length (d .units)) 0 e)
-      (ap (withUnits (draft d)) (λ i. table 64 emptyUnit (none e i) (unitAt d))))
+    (ap (withUnits (draft d)) (λ i. table 64 emptyUnit (none e i) (unitAt d))))
     (λ e. rw (ne-eqb (length (d .units)) 0 e)
-      (ap (withUnits (draft d))
-        (table-more 64 emptyUnit (length (d .units) - 1) (unitAt d) (unitOf (lastUnit d)) (omega arith) refl
-        ∙ (λ i. table 64 emptyUnit (one e i) (unitAt d)))))
+    (ap (withUnits (draft d))
+    (table-more 64 emptyUnit (length (d .units) - 1) (unitAt d) (unitOf (lastUnit d)) (omega arith) refl
+    ∙ (λ i. table 64 emptyUnit (one e i) (unitAt d)))))
   where
     none : length (d .units) ≡ 0 → length (d .units) - 1 ≡ length (d .units)
     none e = omega arith
+
     one : (length (d .units) ≡ 0 → ⊥) → suc (length (d .units) - 1) ≡ length (d .units)
     one e = omega arith
 
@@ -174,7 +181,7 @@ module _ (d : Description) (good : Good d) where
       ap (withUnits (draft d))
       ((λ i. table 64 emptyUnit (length-set us (length us - 1) v i - 1) (unitAt (withLast d v)))
       ∙ table-same 64 emptyUnit (length us - 1) (unitAt (withLast d v)) (unitAt d) (omega (arith, good .few))
-        (λ k g. ap unitOf (getD-set-other us (length us - 1) k v noUnit (omega arith))))
+      (λ k g. ap unitOf (getD-set-other us (length us - 1) k v noUnit (omega arith))))
 
   pub draft-aquifer : (a : Aquifer) → length (d .aquifers) < 32 → draft (withAquifer d a) ≡ putAquifer (draft d) (length (d .aquifers)) a
   draft-aquifer a h =
@@ -183,4 +190,4 @@ module _ (d : Description) (good : Good d) where
       ((λ i. table 32 emptyAquifer (snoc-length ws a emptyAquifer i) (wellAt (withAquifer d a)))
       ∙ sym (table-more 32 emptyAquifer (length ws) (wellAt (withAquifer d a)) a h (sym (snoc-last ws a emptyAquifer (length ws) refl)))
       ∙ ap (λ (l : List Aquifer). set l (length ws) a)
-        (table-same 32 emptyAquifer (length ws) (wellAt (withAquifer d a)) (wellAt d) (omega arith) (λ k g. snoc-before ws a emptyAquifer k g)))
+      (table-same 32 emptyAquifer (length ws) (wellAt (withAquifer d a)) (wellAt d) (omega arith) (λ k g. snoc-before ws a emptyAquifer k g)))

@@ -5,3 +5,5 @@ pub mod Growing
 pub mod Ending
 pub mod Finishing
 pub mod Following
+pub mod Promises
+pub mod Means

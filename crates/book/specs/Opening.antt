@@ -3,7 +3,6 @@ use Prim.Native.Nat.{ℕ, suc, _-_, _≤_, _<_}
 use mathlib.Core.Path.{_≡_}
 use mathlib.Core.Bool.{cond, not}
 use mathlib.Core.Logic.{_⊎_}
-use mathlib.Core.List.{List}
 use lib.Dec.{eqb, ltb}
 use lib.Signed.{nonNeg}
 use lib.ListN.{length, getD, set, replicate}
@@ -33,7 +32,8 @@ putUnit b k u =
       aquifers = b .aquifers;
       «aquifer_count» = b .«aquifer_count»;
       titles = b .titles;
-      given = b .given }
+      given = b .given;
+    }
 
 abbrev pub putAquifer : Balance → ℕ → Aquifer → Balance
 putAquifer b k a =
@@ -43,7 +43,8 @@ putAquifer b k a =
       aquifers = set (b .aquifers) k a;
       «aquifer_count» = b .«aquifer_count»;
       titles = b .titles;
-      given = b .given }
+      given = b .given;
+    }
 
 abbrev pub counted : Balance → ℕ → ℕ → Balance
 counted b n m =
@@ -53,7 +54,8 @@ counted b n m =
       aquifers = b .aquifers;
       «aquifer_count» = m;
       titles = b .titles;
-      given = b .given }
+      given = b .given;
+    }
 
 -- The balance with the open unit, the last of n, put in; with no unit yet it stays as it is.
 abbrev pub stored : Balance → UnitRecord → ℕ → Balance
@@ -72,7 +74,8 @@ draft d =
       aquifers = table 32 emptyAquifer (length (d .aquifers)) (λ k. getD (d .aquifers) k emptyAquifer);
       «aquifer_count» = 0;
       titles = replicate 256 emptyPlace;
-      given = 0 }
+      given = 0;
+    }
 
 -- A refused opening: the number, its place and the fresh balance.
 abbrev pub refusedWith : ℕ → ℕ → Opened

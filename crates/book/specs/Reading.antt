@@ -1,19 +1,18 @@
 -- Reading a description, record by record, and opening it (document 01, "What each operation refuses"). Assumes nothing.
 use Prim.Native.Nat.{ℕ, zero, suc, _+_, _-_}
-use mathlib.Core.Bool.{Bool, true, false, cond, not}
+use mathlib.Core.Bool.{Bool, cond, not}
 use mathlib.Core.List.{List, [], _∷_, _++_}
-use lib.Dec.{eqb, leb, ltb}
+use lib.Dec.{eqb, ltb}
 use lib.ListN.{length, getD, set, replicate}
 use lib.Signed.{nonNeg}
 use Rattle.laws.specs.Table.{table}
 use Rattle.model.specs.declared.Aquifer.{Aquifer}
 use Rattle.model.specs.declared.Balance.{Balance}
-use Rattle.model.specs.declared.Answer.the-variants.{Accepted} 
 use Rattle.model.specs.declared.Found.{Found}
 use Rattle.model.specs.declared.Found.the-variants.{At, Nothing}
 use Rattle.model.specs.Fresh.{emptyUnit, emptyAquifer, emptyPlace, freshBalance}
 use Rattle.model.specs.View.{viewOf}
-use Rattle.model.specs.Answers.{Refusal, none, number, answered, first}
+use Rattle.model.specs.Answers.{none, number, answered, first}
 use Rattle.river.specs.Flow.{flow}
 use Rattle.book.specs.declared.UnitRecord.{UnitRecord}
 use Rattle.book.specs.declared.Mark.{Mark}
@@ -111,7 +110,8 @@ balanceOf d =
       aquifers = table 32 emptyAquifer (length (d .aquifers)) (λ k. getD (d .aquifers) k emptyAquifer);
       «aquifer_count» = length (d .aquifers);
       titles = replicate 256 emptyPlace;
-      given = 0 }
+      given = 0;
+    }
 
 -- The outcome of reading: a description and the offset where it ends, or a refusal's number and place.
 pub data Outcome : Type 0 where
@@ -128,8 +128,8 @@ abbrev pub ended : Description → ℕ → Outcome
 ended d at =
     cond (eqb (closingFault (length (d .units)) (lastUnit d)) 0)
     (faultAt 8 (first (length (d .units)) (λ j. ltb (length (d .units)) (getD (d .units) j noUnit .downstream)))
-      (faultAt 10 (first (length (d .units)) (λ j. not (nonNeg (flow (viewOf (balanceOf d)) j))))
-        (read d at)))
+    (faultAt 10 (first (length (d .units)) (λ j. not (nonNeg (flow (viewOf (balanceOf d)) j))))
+    (read d at)))
     (refused (closingFault (length (d .units)) (lastUnit d)) (lastUnit d .at))
 
 -- A UN adds a unit; SU, PR and AF belong to the last UN; AC adds an aquifer.
@@ -146,12 +146,13 @@ withAquifer d a = record { units = d .units; aquifers = d .aquifers ++ (a ∷ []
 unfoldable pub readingFrom : ℕ → List ℕ → ℕ → Description → Outcome
 readingFrom zero s at d = refused 1 at
 readingFrom (suc records) s at d =
-    elim (next s at (lastUnit d) (length (d .units)) (length (d .aquifers)))
-    [ Ends ↦ ended d at
-    | Refused n p ↦ refused n p
-    | Opens u to ↦ readingFrom records s to (withUnit d u)
-    | Grows u to ↦ readingFrom records s to (withLast d u)
-    | Adds a to ↦ readingFrom records s to (withAquifer d a) ]
+    elim (next s at (lastUnit d) (length (d .units)) (length (d .aquifers))) [
+      | Ends ↦ ended d at
+      | Refused n p ↦ refused n p
+      | Opens u to ↦ readingFrom records s to (withUnit d u)
+      | Grows u to ↦ readingFrom records s to (withLast d u)
+      | Adds a to ↦ readingFrom records s to (withAquifer d a)
+    ]
 
 -- Reading a description. Each record takes bytes, so there are no more records than bytes.
 abbrev pub reading : List ℕ → Outcome

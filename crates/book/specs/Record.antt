@@ -1,5 +1,5 @@
 -- The records of a description (document 01, "The book"). Assumes nothing.
-use Prim.Native.Nat.{ℕ, _+_, _*_}
+use Prim.Native.Nat.{ℕ, _+_}
 use mathlib.Core.Bool.{Bool, cond, _&&_, _||_}
 use mathlib.Core.List.{List}
 use lib.Dec.{eqb}
@@ -12,7 +12,7 @@ use Rattle.model.specs.declared.Aquifer.{Aquifer}
 use Rattle.book.specs.declared.UnitRecord.{UnitRecord}
 use Rattle.book.specs.declared.Mark.{Mark}
 use Rattle.book.specs.declared.Mark.the-variants.{Un, Su, Pr, Af, Ac, Call, Unknown}
-use Rattle.book.specs.Bytes.{bits8, bits16, bits32, signedBits32}
+use Rattle.book.specs.Bytes.{bits8, bits32, signedBits32}
 
 -- The two letters stand at the two bytes.
 abbrev pub spells : ℕ → ℕ → ℕ → ℕ → Bool
@@ -51,7 +51,8 @@ unitRecord s i =
       hectares = 0;
       weighted = 0;
       years = 0;
-      sum = pos 0 }
+      sum = pos 0;
+    }
 
 -- An SU record: cover and soil (8 bits each), hectares (32 bits). The unit with it in.
 abbrev pub withSoil : UnitRecord → ℕ → ℕ → ℕ → UnitRecord
@@ -70,7 +71,8 @@ withSoil u cover soil hectares =
       hectares = u .hectares + hectares;
       weighted = u .weighted + weighted cover soil hectares;
       years = u .years;
-      sum = u .sum }
+      sum = u .sum;
+    }
 
 -- The unit with one year more, of so much water.
 abbrev pub withYear : UnitRecord → ℤ → UnitRecord
@@ -89,7 +91,8 @@ withYear u year =
       hectares = u .hectares;
       weighted = u .weighted;
       years = u .years + 1;
-      sum = u .sum +ℤ year }
+      sum = u .sum +ℤ year;
+    }
 
 -- A PR record, one year's rain (16 bits): a rain year on the unit's hectares and weighted hectares.
 abbrev pub rainOf : UnitRecord → ℕ → ℤ
@@ -109,7 +112,8 @@ aquiferRecord s i =
       natural = bits32 s (i + 6);
       pumped = bits32 s (i + 10);
       committed = bits32 s (i + 14);
-      extraction = bits32 s (i + 18) }
+      extraction = bits32 s (i + 18);
+    }
 
 -- A unit without soil records is gauged.
 abbrev pub isGauged : UnitRecord → Bool
@@ -127,7 +131,8 @@ unitOf u =
       evaporation = u .evaporation;
       storage = u .storage;
       commitment = u .commitment;
-      runoff = naturalRunoff (isGauged u) (u .years) (u .sum) }
+      runoff = naturalRunoff (isGauged u) (u .years) (u .sum);
+    }
 
 -- Before the first UN there is no unit.
 abbrev pub noUnit : UnitRecord
@@ -146,4 +151,5 @@ noUnit =
       hectares = 0;
       weighted = 0;
       years = 0;
-      sum = pos 0 }
+      sum = pos 0;
+    }

@@ -8,7 +8,8 @@ ghost use Rattle.river.specs.Wells.{recharge};
 ghost use Rattle.book.specs.Fault as faults;
 ghost use Rattle.book.specs.Fault.{Sane};
 use crate::UnitRecord;
-use model::{Aquifer, Balance};
+use model::Aquifer;
+use model::Balance;
 
 // A storage change outside -10,000,000 to 10,000,000.
 fn storage_outside(z: i64) -> bool
@@ -21,7 +22,13 @@ fn storage_outside(z: i64) -> bool
 }
 
 // One of the five terms that UN and AF share is above 10,000,000.
-pub fn terms_outside(extraction: u32, exports: u32, imports: u32, returns: u32, evaporation: u32) -> bool
+pub fn terms_outside(
+    extraction: u32,
+    exports: u32,
+    imports: u32,
+    returns: u32,
+    evaporation: u32,
+) -> bool
     ensures { λ r. ⌜ r ≡ faults.termsOutside extraction exports imports returns evaporation ⌝ }
 {
     if extraction > Balance::TERM {
@@ -149,7 +156,14 @@ fn soil_outside(cover: u8, soil: u8, hectares: u32) -> bool
 }
 
 // An SU: 3, 4, 5 or 7.
-pub fn soil_fault(units: usize, aquifers: usize, u: UnitRecord, cover: u8, soil: u8, hectares: u32) -> u8
+pub fn soil_fault(
+    units: usize,
+    aquifers: usize,
+    u: UnitRecord,
+    cover: u8,
+    soil: u8,
+    hectares: u32,
+) -> u8
     requires { ⌜ Sane u ⌝ }
     ensures { λ r. ⌜ r ≡ faults.soilFault units aquifers u cover soil hectares ⌝ }
 {

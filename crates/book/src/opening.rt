@@ -6,11 +6,16 @@ ghost use Rattle.book.specs.Record as records;
 ghost use Rattle.book.specs.Fault.{Closed};
 ghost use Rattle.book.specs.Reading as reading;
 ghost use Rattle.book.specs.Opening as opening;
+use crate::Next;
+use crate::Opened;
+use crate::UnitRecord;
 use crate::fault::closing_fault;
 use crate::record::unit_of;
 use crate::step::next;
-use crate::{Next, Opened, UnitRecord};
-use model::{Answer, Aquifer, Balance, Found};
+use model::Answer;
+use model::Aquifer;
+use model::Balance;
+use model::Found;
 
 // A refused opening hands back the fresh balance.
 pub fn refused(number: u8, place: usize) -> Opened

@@ -6,9 +6,13 @@ ghost use lib.ListN.{length};
 ghost use Rattle.runoff.specs.Soil.{Known};
 ghost use Rattle.book.specs.Record as records;
 ghost use Rattle.book.specs.Fault.{Sane, Closed, YearRange};
-use crate::bytes::{bits8, bits32, signed_bits32};
-use crate::{Mark, UnitRecord};
-use model::{Aquifer, Unit};
+use crate::Mark;
+use crate::UnitRecord;
+use crate::bytes::bits8;
+use crate::bytes::bits32;
+use crate::bytes::signed_bits32;
+use model::Aquifer;
+use model::Unit;
 
 // The two letters stand at the two bytes.
 fn spells(a: u8, b: u8, x: u8, y: u8) -> bool

@@ -6,10 +6,26 @@ ghost use lib.ListN.{length};
 ghost use Rattle.book.specs.Fault.{Sane};
 ghost use Rattle.book.specs.Record as records;
 ghost use Rattle.book.specs.Reading as reading;
-use crate::bytes::{bits8, bits16, bits32, signed_bits32};
-use crate::fault::{aquifer_fault, closing_fault, gauge_fault, gauge_outside, rain_fault, soil_fault, terms_outside, unit_fault};
-use crate::record::{aquifer_record, mark_of, unit_record, with_soil, with_year};
-use crate::{Mark, Next, UnitRecord};
+use crate::Mark;
+use crate::Next;
+use crate::UnitRecord;
+use crate::bytes::bits8;
+use crate::bytes::bits16;
+use crate::bytes::bits32;
+use crate::bytes::signed_bits32;
+use crate::fault::aquifer_fault;
+use crate::fault::closing_fault;
+use crate::fault::gauge_fault;
+use crate::fault::gauge_outside;
+use crate::fault::rain_fault;
+use crate::fault::soil_fault;
+use crate::fault::terms_outside;
+use crate::fault::unit_fault;
+use crate::record::aquifer_record;
+use crate::record::mark_of;
+use crate::record::unit_record;
+use crate::record::with_soil;
+use crate::record::with_year;
 
 // A UN closes the open unit, then is refused or opens the next.
 fn unit_step(s: &[u8], at: usize, u: UnitRecord, units: usize, aquifers: usize) -> Next
@@ -108,7 +124,12 @@ fn outside_at(s: &[u8], at: usize) -> bool
     let returns = bits32(s, at + 22);
     let evaporation = bits32(s, at + 26);
     let terms = terms_outside(extraction, exports, imports, returns, evaporation);
-    gauge_outside(bits32(s, at + 2), bits32(s, at + 6), terms, signed_bits32(s, at + 30))
+    gauge_outside(
+        bits32(s, at + 2),
+        bits32(s, at + 6),
+        terms,
+        signed_bits32(s, at + 30),
+    )
 }
 
 // The year of the AF at an offset.
@@ -125,7 +146,16 @@ fn year_at(s: &[u8], at: usize) -> i64
     let returns = bits32(s, at + 22);
     let evaporation = bits32(s, at + 26);
     let storage = signed_bits32(s, at + 30);
-    runoff::gauged_year(outflow, inflow, extraction, exports, imports, returns, evaporation, storage)
+    runoff::gauged_year(
+        outflow,
+        inflow,
+        extraction,
+        exports,
+        imports,
+        returns,
+        evaporation,
+        storage,
+    )
 }
 
 // An AF belongs to the open unit.

@@ -1,14 +1,14 @@
 -- Arrays that a loop fills, and arrays in which a loop adds up what arrives at each place. Assumes nothing.
-use Prim.Native.Nat.{ℕ, zero, suc, _+_, _-_, _≤_, _<_}
+use Prim.Native.Nat.{ℕ, zero, suc, _+_, _≤_, _<_}
 use mathlib.Core.Path.{_≡_, refl, sym, ap, _∙_}
 use mathlib.Core.List.{List}
 use mathlib.Core.Bool.{cond}
-use lib.Dec.{eqb, ltb}
+use lib.Dec.{ltb}
 use lib.ListN.{length, getD, set, replicate, length-set, length-replicate, getD-replicate, List·getD-eq-default}
 use lib.Seq.{getD-set-same, getD-set-other, ext-getD}
 use native.Mathlib.Omega.{arith}
 use borrow.Author.Tests.{eq-eqb, ne-eqb, lt-ltb, le-ltb}
-use Rattle.laws.specs.Sum.{naturals, sumOf, only}
+use Rattle.laws.specs.Sum.{naturals, sumOf}
 use Rattle.laws.specs.Gather.{arriving}
 use Rattle.laws.specs.Table.{tabulate, table}
 use Rattle.laws.proofs.Cases.{by-eq, by-lt}
@@ -33,10 +33,11 @@ module _ {A : Type 0} (n : ℕ) (d : A) (f : ℕ → A) where
       record {
         long = length-set w i x ∙ p .long;
         done = λ j g.
-          by-eq j i
-          (λ q. rw q (getD-set-same w i x d (omega (arith, p .long)) ∙ e))
-          (λ q. getD-set-other w i j x d q ∙ p .done j (omega arith));
-        rest = λ j g. getD-set-other w i j x d (omega arith) ∙ p .rest j (omega arith) }
+            by-eq j i
+            (λ q. rw q (getD-set-same w i x d (omega (arith, p .long)) ∙ e))
+            (λ q. getD-set-other w i j x d q ∙ p .done j (omega arith));
+        rest = λ j g. getD-set-other w i j x d (omega arith) ∙ p .rest j (omega arith);
+      }
 
   pub filled-more : (i : ℕ) (w : List A) → i < n → Filled n d f i w → Filled n d f (suc i) (set w i (f i))
   filled-more i w h p = filled-put i w (f i) h refl p
@@ -56,7 +57,8 @@ module _ (n : ℕ) (down x : ℕ → ℕ) where
   arrived-out i w e p =
       record {
         long = p .long;
-        each = λ j h. rw (ne-eqb (down i) (suc j) (omega arith)) (omega (arith, p .each j h)) }
+        each = λ j h. rw (ne-eqb (down i) (suc j) (omega arith)) (omega (arith, p .each j h));
+      }
 
   pub arrived-on : (i k : ℕ) (w : List ℕ) → down i ≡ suc k → k < n → Arrived n down x i w
       → Arrived n down x (suc i) (set w k (getD w k 0 + x i))
@@ -65,11 +67,12 @@ module _ (n : ℕ) (down x : ℕ → ℕ) where
       record {
         long = length-set w k (getD w k 0 + x i) ∙ p .long;
         each = λ j g.
-          by-eq j k
-          (λ q. rw (q, getD-set-same w k (getD w k 0 + x i) 0 (omega (arith, p .long)), eq-eqb (down i) (suc k) e)
+            by-eq j k
+            (λ q. rw (q, getD-set-same w k (getD w k 0 + x i) 0 (omega (arith, p .long)), eq-eqb (down i) (suc k) e)
             (omega (arith, p .each k h)))
-          (λ q. rw (getD-set-other w k j (getD w k 0 + x i) 0 q, ne-eqb (down i) (suc j) (omega arith))
-            (omega (arith, p .each j g))) }
+            (λ q. rw (getD-set-other w k j (getD w k 0 + x i) 0 q, ne-eqb (down i) (suc j) (omega arith))
+            (omega (arith, p .each j g)));
+      }
 
 -- A place that is to hold the default may be passed over.
 pub filled-keep : {A : Type 0} (n : ℕ) (d : A) (f : ℕ → A) (i : ℕ) (w : List A) → f i ≡ d → Filled n d f i w → Filled n d f (suc i) w
@@ -77,7 +80,8 @@ filled-keep n d f i w e p =
     record {
       long = p .long;
       done = λ j g. by-eq j i (λ q. rw q (p .rest i (omega arith) ∙ sym e)) (λ q. p .done j (omega arith));
-      rest = λ j g. p .rest j (omega arith) }
+      rest = λ j g. p .rest j (omega arith);
+    }
 
 -- An array of n places of which those from i up to m hold f, filled from the last down; the others hold the default.
 pub record FilledDown {A : Type 0} (n : ℕ) (d : A) (f : ℕ → A) (m i : ℕ) (w : List A) : Type 0 where
@@ -95,10 +99,11 @@ module _ {A : Type 0} (n : ℕ) (d : A) (f : ℕ → A) (m : ℕ) where
       record {
         long = length-set w i x ∙ p .long;
         done = λ j g q.
-          by-eq j i
-          (λ s. rw s (getD-set-same w i x d (omega (arith, p .long)) ∙ e))
-          (λ s. getD-set-other w i j x d s ∙ p .done j (omega arith) q);
-        rest = λ j g. getD-set-other w i j x d (omega arith) ∙ p .rest j g }
+            by-eq j i
+            (λ s. rw s (getD-set-same w i x d (omega (arith, p .long)) ∙ e))
+            (λ s. getD-set-other w i j x d s ∙ p .done j (omega arith) q);
+        rest = λ j g. getD-set-other w i j x d (omega arith) ∙ p .rest j g;
+      }
 
 pub length-tabulate : {A : Type 0} (n : ℕ) (f : ℕ → A) → length (tabulate n f) ≡ n
 unfolding tabulate
@@ -117,9 +122,9 @@ unfolding table
 filled-table n d f count w p =
     ext-getD d w (tabulate n (λ j. cond (ltb j count) (f j) d)) (p .long ∙ sym (length-tabulate n _))
     (λ j h.
-      by-lt j count
-      (λ g. p .done j g ∙ sym (getD-tabulate n _ d j (omega (arith, p .long)) ∙ rw (lt-ltb j count g)))
-      (λ g. p .rest j g ∙ sym (getD-tabulate n _ d j (omega (arith, p .long)) ∙ rw (le-ltb j count g))))
+    by-lt j count
+    (λ g. p .done j g ∙ sym (getD-tabulate n _ d j (omega (arith, p .long)) ∙ rw (lt-ltb j count g)))
+    (λ g. p .rest j g ∙ sym (getD-tabulate n _ d j (omega (arith, p .long)) ∙ rw (le-ltb j count g))))
 
 pub getD-table : {A : Type 0} (n : ℕ) (d : A) (count : ℕ) (f : ℕ → A) (j : ℕ) → j < count → j < n → getD (table n d count f) j d ≡ f j
 unfolding table
@@ -133,9 +138,10 @@ table-filled n d count f c =
       long = length-tabulate n _;
       done = λ j h. getD-tabulate n _ d j (omega arith) ∙ rw (lt-ltb j count h);
       rest = λ j h.
-        by-lt j n
-        (λ g. getD-tabulate n _ d j g ∙ rw (le-ltb j count h))
-        (λ g. List·getD-eq-default (tabulate n _) d (omega (arith, length-tabulate n (λ k. cond (ltb k count) (f k) d)))) }
+          by-lt j n
+          (λ g. getD-tabulate n _ d j g ∙ rw (le-ltb j count h))
+          (λ g. List·getD-eq-default (tabulate n _) d (omega (arith, length-tabulate n (λ k. cond (ltb k count) (f k) d))));
+    }
 
 pub table-same : {A : Type 0} (n : ℕ) (d : A) (count : ℕ) (f g : ℕ → A) → count ≤ n → ((k : ℕ) → k < count → f k ≡ g k) → table n d count f ≡ table n d count g
 table-same n d count f g c e =

@@ -1,6 +1,6 @@
 -- First match wins: how a return of a chain of tests meets the chain of the definition. Use as `search chain depth 16`. Assumes nothing.
 use Prim.Native.Nat.{ℕ, _≤_, _<_}
-use mathlib.Core.Path.{_≡_, refl, sym, ap, _∙_}
+use mathlib.Core.Path.{_≡_, sym, _∙_}
 use mathlib.Core.Bool.{Bool, true, false, cond, not, _&&_, _||_}
 use lib.Dec.{eqb, ltb, leb}
 use borrow.Author.Tests.{lt-ltb, le-ltb, le-leb, lt-leb, eq-eqb, ne-eqb}
@@ -84,5 +84,7 @@ pub f-or : (t u : Bool) → t ≡ false → u ≡ false → t || u ≡ false
 f-or t u e q = rw e q
 
 pub ruleset chain = (hit, miss, t-lt, f-lt, t-le, f-le, t-eq, f-eq, t-of, f-of)
+
 pub ruleset conjunction = (and-no, and-on, or-yes, or-on, is-true, is-false, t-lt, f-lt, t-le, f-le, t-eq, f-eq, t-of, f-of, t-not, f-not)
+
 pub ruleset disjunction = (or-yes, or-on, t-lt, f-lt, t-le, f-le, t-eq, f-eq, t-of, f-of)

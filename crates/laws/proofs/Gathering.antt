@@ -1,7 +1,7 @@
 -- Laws of gathering. Assumes nothing.
 use Prim.Native.Nat.{ℕ, zero, suc, _+_, _*_, _≤_, _<_}
 use mathlib.Core.Logic.{_⊎_, ⊎-elim}
-use mathlib.Core.Path.{_≡_, refl, sym, ap, ap₂, _∙_}
+use mathlib.Core.Path.{_≡_, refl, ap, ap₂, _∙_}
 use mathlib.Core.Bool.{Bool, true, false, _||_}
 use lib.Dec.{eqb, ltb}
 use native.Mathlib.Nat.{le-refl, not-suc-le-zero, suc-mul}
@@ -45,35 +45,35 @@ module _ {A B C : Type 0} (P : Adding A) (Q : Adding B) (S : Adding C) (R : A �
     (at-none : R (P .none) (Q .none) (S .none))
     (at-plus : (a a′ : A) (b b′ : B) (c c′ : C) → R a b c → R a′ b′ c′ → R (P .plus a a′) (Q .plus b b′) (S .plus c c′))
   where
-  pub related-sum : (n : ℕ) (x : ℕ → A) (y : ℕ → B) (z : ℕ → C) → ((k : ℕ) → k < n → R (x k) (y k) (z k))
-      → R (sumOf P n x) (sumOf Q n y) (sumOf S n z)
-  unfolding sumOf
-  related-sum zero x y z r = at-none
-  related-sum (suc n) x y z r =
-      at-plus _ _ _ _ _ _ (related-sum n x y z (λ k h. r k (omega arith))) (r n (omega arith))
+    pub related-sum : (n : ℕ) (x : ℕ → A) (y : ℕ → B) (z : ℕ → C) → ((k : ℕ) → k < n → R (x k) (y k) (z k))
+        → R (sumOf P n x) (sumOf Q n y) (sumOf S n z)
+    unfolding sumOf
+    related-sum zero x y z r = at-none
+    related-sum (suc n) x y z r =
+        at-plus _ _ _ _ _ _ (related-sum n x y z (λ k h. r k (omega arith))) (r n (omega arith))
 
-  related-only : (t : Bool) (a : A) (b : B) (c : C) → R a b c → R (only P t a) (only Q t b) (only S t c)
-  related-only true a b c r = r
-  related-only false a b c r = at-none
+    related-only : (t : Bool) (a : A) (b : B) (c : C) → R a b c → R (only P t a) (only Q t b) (only S t c)
+    related-only true a b c r = r
+    related-only false a b c r = at-none
 
-  pub related-arriving : (down : ℕ → ℕ) (n j : ℕ) (x : ℕ → A) (y : ℕ → B) (z : ℕ → C)
-      → ((k : ℕ) → k < n → R (x k) (y k) (z k)) → R (arriving P down x n j) (arriving Q down y n j) (arriving S down z n j)
-  related-arriving down n j x y z r = related-sum n _ _ _ (λ k h. related-only (eqb (down k) (suc j)) _ _ _ (r k h))
+    pub related-arriving : (down : ℕ → ℕ) (n j : ℕ) (x : ℕ → A) (y : ℕ → B) (z : ℕ → C)
+        → ((k : ℕ) → k < n → R (x k) (y k) (z k)) → R (arriving P down x n j) (arriving Q down y n j) (arriving S down z n j)
+    related-arriving down n j x y z r = related-sum n _ _ _ (λ k h. related-only (eqb (down k) (suc j)) _ _ _ (r k h))
 
-  related-to : (down : ℕ → ℕ) (x : ℕ → A) (y : ℕ → B) (z : ℕ → C) (depth j : ℕ) → ((k : ℕ) → k ≤ j → R (x k) (y k) (z k))
-      → R (gatherTo P down x depth j) (gatherTo Q down y depth j) (gatherTo S down z depth j)
-  unfolding gatherTo
-  related-to down x y z zero j r = at-plus _ _ _ _ _ _ at-none (r j (le-refl j))
-  related-to down x y z (suc d) j r =
-      at-plus _ _ _ _ _ _
-      (related-sum j _ _ _
-      (λ k h. related-only (eqb (down k) (suc j)) _ _ _ (related-to down x y z d k (λ i g. r i (omega arith)))))
-      (r j (le-refl j))
+    related-to : (down : ℕ → ℕ) (x : ℕ → A) (y : ℕ → B) (z : ℕ → C) (depth j : ℕ) → ((k : ℕ) → k ≤ j → R (x k) (y k) (z k))
+        → R (gatherTo P down x depth j) (gatherTo Q down y depth j) (gatherTo S down z depth j)
+    unfolding gatherTo
+    related-to down x y z zero j r = at-plus _ _ _ _ _ _ at-none (r j (le-refl j))
+    related-to down x y z (suc d) j r =
+        at-plus _ _ _ _ _ _
+        (related-sum j _ _ _
+        (λ k h. related-only (eqb (down k) (suc j)) _ _ _ (related-to down x y z d k (λ i g. r i (omega arith)))))
+        (r j (le-refl j))
 
-  pub related-gather : (down : ℕ → ℕ) (x : ℕ → A) (y : ℕ → B) (z : ℕ → C) (j : ℕ) → ((k : ℕ) → k ≤ j → R (x k) (y k) (z k))
-      → R (gather P down x j) (gather Q down y j) (gather S down z j)
-  unfolding gather
-  related-gather down x y z j r = related-to down x y z j j r
+    pub related-gather : (down : ℕ → ℕ) (x : ℕ → A) (y : ℕ → B) (z : ℕ → C) (j : ℕ) → ((k : ℕ) → k ≤ j → R (x k) (y k) (z k))
+        → R (gather P down x j) (gather Q down y j) (gather S down z j)
+    unfolding gather
+    related-gather down x y z j r = related-to down x y z j j r
 
 -- A tree of n places: each drains into a place after it, or is an outlet.
 pub record Tree (down : ℕ → ℕ) (n : ℕ) : Type 0 where
@@ -89,12 +89,12 @@ split-only n d a =
     by-eq d 0
     (λ e. rw (eq-eqb d 0 e, ne-eqb d (suc n) (omega arith)) (omega arith))
     (λ e. rw (ne-eqb d 0 e)
-      (by-eq d (suc n)
-        (λ g. rw (eq-eqb d (suc n) g, lt-ltb n d (omega arith), le-ltb (suc n) d (omega arith)) (omega arith))
-        (λ g. rw (ne-eqb d (suc n) g)
-          (by-lt n d
-            (λ h. rw (lt-ltb n d h, lt-ltb (suc n) d (omega arith)) (omega arith))
-            (λ h. rw (le-ltb n d h, le-ltb (suc n) d (omega arith)) (omega arith))))))
+    (by-eq d (suc n)
+    (λ g. rw (eq-eqb d (suc n) g, lt-ltb n d (omega arith), le-ltb (suc n) d (omega arith)) (omega arith))
+    (λ g. rw (ne-eqb d (suc n) g)
+    (by-lt n d
+    (λ h. rw (lt-ltb n d h, lt-ltb (suc n) d (omega arith)) (omega arith))
+    (λ h. rw (le-ltb n d h, le-ltb (suc n) d (omega arith)) (omega arith))))))
 
 passing : (n d a : ℕ) → (d ≡ 0) ⊎ (suc n < d) → only naturals (eqb d 0 || ltb (suc n) d) a ≡ a
 passing n d a t = ⊎-elim (λ e. rw (eq-eqb d 0 e)) (λ h. rw (ne-eqb d 0 (omega arith), lt-ltb (suc n) d h)) t
@@ -130,10 +130,12 @@ module _ (down own : ℕ → ℕ) where
   pub arriving-within : (j : ℕ) → Tree down j → arriving naturals down (gather naturals down own) j j ≤ sumOf naturals j own
   arriving-within j t =
       let G = gather naturals down own in
-      omega (arith,
+      omega (
+        arith,
         sum-monotone j (λ k. only naturals (eqb (down k) (suc j)) (G k)) (λ k. only naturals (passes down j k) (G k))
-        (λ k h. omega (arith, split-only j (down k) (G k))),
-        on-the-way down own j t)
+            (λ k h. omega (arith, split-only j (down k) (G k))),
+        on-the-way down own j t,
+      )
 
   pub gather-within : (j : ℕ) → Tree down j → gather naturals down own j ≤ sumOf naturals (suc j) own
   unfolding sumOf
@@ -157,4 +159,4 @@ arriving-stays down x n (suc i) j t h g =
     by-lt i j
     (λ q. let e : j ≡ suc i = omega arith in rw e)
     (λ q. rw (ne-eqb (down i) (suc j) (⊎-elim (λ e. λ k. omega arith) (λ e. λ k. omega arith) (t .onward i (omega arith))))
-      (omega (arith, arriving-stays down x n i j t q (omega arith))))
+    (omega (arith, arriving-stays down x n i j t q (omega arith))))

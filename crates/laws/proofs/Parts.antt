@@ -11,9 +11,9 @@
 use Prim.Native.Nat.{ℕ, zero, suc, _+_, _-_, _≤_, _<_, _^_}
 use mathlib.Core.Path.{_≡_, refl, sym, ap, _∙_}
 use mathlib.Core.Bool.{Bool, true, false, true≢false}
-use lib.Dec.{T, ltb, leb, ltb→lt, leb→le, lt→ltb, le→leb}
+use lib.Dec.{T}
 use lib.IntN.{ℤ, pos, negsuc, subℕ, negℤ, _+ℤ_, _-ℤ_}
-use lib.Signed.{mag, ltZ, leZ, nonNeg, _≤ℤ_, _<ℤ_}
+use lib.Signed.{ltZ, leZ, nonNeg, _≤ℤ_, _<ℤ_}
 use mir.Syntax.{w64}
 use mir.Val.{SFits, toZ, ofZ}
 use native.Mathlib.Omega.{arith}

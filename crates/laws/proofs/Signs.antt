@@ -1,16 +1,16 @@
 -- Laws of signed numbers by their natural parts, and of the bits that hold them. Assumes nothing.
 use Prim.Native.Nat.{ℕ, zero, suc, _+_, _-_, _≤_, _<_, _^_}
-use mathlib.Core.Path.{_≡_, refl, sym, ap, _∙_, subst}
-use mathlib.Core.Bool.{Bool, true, false, cond, true≢false}
-use lib.Dec.{T, ltb}
-use lib.IntN.{ℤ, pos, negsuc, subℕ, natAbs, _+ℤ_, _-ℤ_}
+use mathlib.Core.Path.{_≡_, refl, sym, ap, _∙_}
+use mathlib.Core.Bool.{true, false, true≢false}
+use lib.Dec.{T}
+use lib.IntN.{ℤ, pos, negsuc, subℕ, natAbs, _-ℤ_}
 use lib.Signed.{mag, ltZ, nonNeg}
 use mir.Syntax.{w64}
-use mir.Val.{Fits, SFits, toZ, ofZ, hbits}
-use mir.ValLaws.{toZ-ofZ, toZ-pos}
+use mir.Val.{Fits, SFits, toZ, ofZ}
+use mir.ValLaws.{toZ-ofZ}
 use native.Mathlib.Omega.{arith}
-use borrow.Author.Tests.{ltb-true, ltb-false, lt-ltb, le-ltb}
-use Rattle.laws.specs.Signed.{above, below, signed32}
+use borrow.Author.Tests.{ltb-true, lt-ltb, le-ltb}
+use Rattle.laws.specs.Signed.{above, below}
 use Rattle.laws.proofs.Cases.{by-lt}
 
 -- A difference of two naturals, by which of them is larger.

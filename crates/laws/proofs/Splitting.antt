@@ -1,5 +1,5 @@
 -- Floors of a demand split over running totals. Assumes nothing.
-use Prim.Native.Nat.{ℕ, _+_, _*_, _-_, _/_, _≤_, _<_}
+use Prim.Native.Nat.{ℕ, _*_, _/_, _≤_, _<_}
 use mathlib.Core.Path.{_≡_}
 use native.Mathlib.Nat.{mul-le-mul-left, le-trans, le-div-iff-mul-le, div-mul-le-self, mul-div-cancel}
 use native.Mathlib.Omega.{arith}

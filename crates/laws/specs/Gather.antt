@@ -1,5 +1,5 @@
 -- Gathering down a tree of places: each place but the outlets drains into one other place. Assumes nothing.
-use Prim.Native.Nat.{ℕ, zero, suc, _+_}
+use Prim.Native.Nat.{ℕ, zero, suc}
 use lib.Dec.{eqb}
 use Rattle.laws.specs.Sum.{Adding, sumOf, only}
 

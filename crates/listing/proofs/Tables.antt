@@ -1,17 +1,15 @@
 -- The table of a balance, from the reply of its figures. Assumes nothing.
 use Prim.Native.Nat.{ℕ, zero, suc, _≤_, _<_}
 use mathlib.Core.Path.{_≡_, refl, sym, ap, ap₂, _∙_}
-use mathlib.Core.Bool.{Bool, true, false, cond, not}
+use mathlib.Core.Bool.{Bool, true, false, cond}
 use mathlib.Core.List.{List, [], _++_}
-use lib.Dec.{ltb}
-use lib.ListN.{length, getD, replicate}
+use lib.ListN.{length, getD}
 use native.Mathlib.Omega.{arith}
 use borrow.Author.Tests.{lt-ltb, le-ltb}
 use Rattle.laws.proofs.Cases.{by-bool}
 use Rattle.laws.proofs.Arrays.{getD-table}
 use Rattle.model.specs.declared.Answer.{Answer}
 use Rattle.model.specs.declared.Answer.the-variants.{Accepted, Refused}
-use Rattle.model.specs.Answers.{answered, refuse, none}
 use Rattle.model.specs.View.{View, viewOf}
 use Rattle.river.specs.declared.UnitFigures.{UnitFigures}
 use Rattle.river.specs.declared.AquiferFigures.{AquiferFigures}
@@ -19,7 +17,6 @@ use Rattle.river.specs.Figures.{unitFigures, noUnitFigures, allUnitFigures, aqu
 use Rattle.basin.specs.Sound.{sound}
 use Rattle.basin.specs.Figures.{figuresReply}
 use Rattle.basin.proofs.Soundness.{soundness}
-use Rattle.book.specs.declared.Opened.{Opened}
 use Rattle.book.specs.Reading.{opened}
 use Rattle.report.specs.Text.{refusedLine}
 use Rattle.listing.specs.Listing.{linesOf, unitText, aquiferText, tableText, answerText, printed}
@@ -50,7 +47,7 @@ module _ (v : View) (s : sound v ≡ true) where
       let all : us ≡ allUnitFigures v = rw s at e in
       lines-same (v .units) _ _
       (λ k h. ap (λ (f : UnitFigures). unitText f k)
-        (ap (λ (l : List UnitFigures). getD l k noUnitFigures) all ∙ getD-table 64 noUnitFigures (v .units) (unitFigures v) k h (omega (arith, few-units))))
+      (ap (λ (l : List UnitFigures). getD l k noUnitFigures) all ∙ getD-table 64 noUnitFigures (v .units) (unitFigures v) k h (omega (arith, few-units))))
 
   pub aquifer-lines-are : (ws : List AquiferFigures) → ws ≡ figuresReply v .aquifers
       → linesOf (v .aquifers) (λ k. aquiferText (getD ws k noAquiferFigures) k) ≡ linesOf (v .aquifers) (λ k. aquiferText (aquiferFigures v k) k)
@@ -58,7 +55,7 @@ module _ (v : View) (s : sound v ≡ true) where
       let all : ws ≡ allAquiferFigures v = rw s at e in
       lines-same (v .aquifers) _ _
       (λ k h. ap (λ (f : AquiferFigures). aquiferText f k)
-        (ap (λ (l : List AquiferFigures). getD l k noAquiferFigures) all ∙ getD-table 32 noAquiferFigures (v .aquifers) (aquiferFigures v) k h (omega (arith, few-aquifers))))
+      (ap (λ (l : List AquiferFigures). getD l k noAquiferFigures) all ∙ getD-table 32 noAquiferFigures (v .aquifers) (aquiferFigures v) k h (omega (arith, few-aquifers))))
 
   pub table-is : linesOf (v .units) (λ k. unitText (unitFigures v k) k) ++ linesOf (v .aquifers) (λ k. aquiferText (aquiferFigures v k) k) ≡ tableText v
   table-is = rw s

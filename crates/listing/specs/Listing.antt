@@ -12,7 +12,6 @@ use Rattle.river.specs.declared.UnitFigures.{UnitFigures}
 use Rattle.river.specs.declared.AquiferFigures.{AquiferFigures}
 use Rattle.river.specs.Figures.{unitFigures, aquiferFigures}
 use Rattle.basin.specs.Sound.{sound}
-use Rattle.book.specs.declared.Opened.{Opened}
 use Rattle.book.specs.Reading.{opened}
 use Rattle.report.specs.Text.{unitLine, aquiferLine, refusedLine}
 

@@ -8,9 +8,11 @@ ghost use Rattle.river.specs.Figures.{noUnitFigures, noAquiferFigures};
 ghost use Rattle.report.specs.Text.{Written};
 ghost use Rattle.listing.specs.Listing as text;
 use basin::reply::figures;
-use model::{Answer, Balance};
+use model::Answer;
+use model::Balance;
 use report::ROOM;
-use river::{AquiferFigures, UnitFigures};
+use river::AquiferFigures;
+use river::UnitFigures;
 
 // The lines of the first n units.
 fn unit_lines(out: &mut [u8; ROOM], at: usize, units: [UnitFigures; 64], n: usize) -> usize
@@ -34,7 +36,15 @@ fn unit_line(out: &mut [u8; ROOM], at: usize, k: usize, f: UnitFigures) -> usize
 {
     let flow = f.flow;
     let availability = f.availability;
-    report::unit_line(out, at, (k as u64) + 1, flow, f.committed, f.reserve, availability)
+    report::unit_line(
+        out,
+        at,
+        (k as u64) + 1,
+        flow,
+        f.committed,
+        f.reserve,
+        availability,
+    )
 }
 
 // The lines of the first n aquifers.

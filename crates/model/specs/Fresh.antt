@@ -20,7 +20,8 @@ emptyUnit =
       evaporation = 0;
       storage = pos 0;
       commitment = 0;
-      runoff = 0 }
+      runoff = 0;
+    }
 
 abbrev pub emptyAquifer : Aquifer
 emptyAquifer = record { storage = pos 0; natural = 0; pumped = 0; committed = 0; extraction = 0 }
@@ -37,4 +38,5 @@ freshBalance =
       aquifers = replicate 32 emptyAquifer;
       «aquifer_count» = 0;
       titles = replicate 256 emptyPlace;
-      given = 0 }
+      given = 0;
+    }

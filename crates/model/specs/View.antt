@@ -25,7 +25,8 @@ viewOf b =
       aquifers = b .«aquifer_count»;
       aquifer = λ k. getD (b .aquifers) k emptyAquifer;
       given = b .given;
-      place = λ k. getD (b .titles) k emptyPlace }
+      place = λ k. getD (b .titles) k emptyPlace;
+    }
 
 -- The largest term: 10,000,000 thousand m³.
 abbrev pub termLimit : ℕ

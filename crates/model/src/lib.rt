@@ -114,7 +114,9 @@ impl Place {
 impl Balance {
     // How many units, aquifers and titles one balance holds at most.
     pub const UNITS: usize = 64;
+
     pub const AQUIFERS: usize = 32;
+
     pub const TITLES: usize = 256;
     // The largest term.
     pub const TERM: u32 = 10000000;

@@ -1,8 +1,8 @@
 -- What the early refusals leave: a title that can be put in, with entries that stay within the limit. Assumes nothing.
-use Prim.Native.Nat.{ℕ, zero, suc, pred, _+_, _≤_, _<_}
+use Prim.Native.Nat.{ℕ, suc, pred, _+_, _≤_, _<_}
 use mathlib.Core.Path.{_≡_, refl, sym, ap, subst, _∙_}
 use mathlib.Core.Bool.{Bool, true, false, cond, not, _&&_, _||_, true≢false}
-use lib.Dec.{eqb, leb, ltb}
+use lib.Dec.{eqb, leb}
 use native.Mathlib.Omega.{arith}
 use borrow.Author.Tests.{ltb-false, leb-false, eq-eqb, ne-eqb}
 use Rattle.laws.specs.Sum.{naturals, only}
@@ -17,10 +17,9 @@ use Rattle.titles.specs.Adds.{returned}
 use Rattle.river.specs.Flow.{Ready}
 use Rattle.river.specs.Figures.{WellsReady}
 use Rattle.basin.specs.Sound.{exists, isVolume}
-use Rattle.basin.proofs.Soundness.{UnitSound, AquiferSound, Exists, Volume, TitleSound, Soundness, number-exists, is-volume, ready-of, wells-ready-of}
-use Rattle.register.specs.Grant.{granted, raisedUnit, raisedAquifer, overfull, past, downstreamTransfer, noWater, volumeRefusal, grantRefusal}
+use Rattle.basin.proofs.Soundness.{UnitSound, AquiferSound, Volume, TitleSound, Soundness, number-exists, is-volume, ready-of, wells-ready-of}
+use Rattle.register.specs.Grant.{granted, raisedUnit, raisedAquifer, overfull, past, downstreamTransfer, noWater, grantRefusal}
 use Rattle.register.specs.Steps.{volumeNumber, earlyNumber, Named, Fits}
-use Rattle.register.proofs.Raising.{elsewhere}
 
 -- The early refusals and the grant's: under its number, or what follows.
 abbrev pub judged : ℕ → Refusal → Refusal
@@ -105,7 +104,8 @@ granting-of v (UnitWithdrawal u r x) e =
       room = f .room;
       named = (there .positive, there .within);
       fits = (ltb-false _ _ (o .0), ltb-false _ _ (o .1));
-      titled = (there, number-exists 7 r (q .0), f .volume) }
+      titled = (there, number-exists 7 r (q .0), f .volume);
+    }
 granting-of v (AquiferWithdrawal a x) e =
     let p = held (exists (v .aquifers) a) _ 11 e in
     let f = room-of (v .given) x (overfull v (AquiferWithdrawal a x)) (p .1) in
@@ -123,9 +123,10 @@ granting-of v (UnitTransfer g r x) e =
     record {
       room = f .room;
       named =
-        (giver .positive, giver .within, receiver .positive, receiver .within, λ q. true≢false (sym (eq-eqb g r q) ∙ apart .0));
+          (giver .positive, giver .within, receiver .positive, receiver .within, λ q. true≢false (sym (eq-eqb g r q) ∙ apart .0));
       fits = (ltb-false _ _ (o .0), ltb-false _ _ (o .1));
-      titled = (giver, receiver, f .volume) }
+      titled = (giver, receiver, f .volume);
+    }
 granting-of v (AquiferTransfer a u x) e =
     let p = held (exists (v .aquifers) a && exists (v .units) u) _ 11 e in
     let f = room-of (v .given) x (overfull v (AquiferTransfer a u x)) (p .1) in
@@ -137,7 +138,8 @@ granting-of v (AquiferTransfer a u x) e =
       room = f .room;
       named = (source .positive, source .within, unit .positive, unit .within);
       fits = (ltb-false _ _ (o .0), ltb-false _ _ (o .1));
-      titled = (source, unit, f .volume) }
+      titled = (source, unit, f .volume);
+    }
 
 -- An entry that is raised at one number stays within the limit.
 within : (e : ℕ → ℕ) (u x k : ℕ) → 0 < u → e (pred u) + x ≤ termLimit → e k ≤ termLimit → e k + only naturals (eqb u (suc k)) x ≤ termLimit
@@ -165,7 +167,8 @@ raised-sound t n k u s e₁ e₂ e₃ e₄ =
       runoff = s .runoff;
       onward = s .onward;
       within = s .within;
-      outlet = s .outlet }
+      outlet = s .outlet;
+    }
 
 -- With the title in, every unit and every aquifer stays sound.
 pub unit-stays : (v : View) (t : Title) → Granting v t → (k : ℕ) → UnitSound (v .units) k (v .unit k)

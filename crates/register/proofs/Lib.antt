@@ -3,3 +3,4 @@ pub mod Negative
 pub mod Granting
 pub mod Posting
 pub mod Replies
+pub mod Staying

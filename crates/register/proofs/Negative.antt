@@ -1,13 +1,11 @@
 -- A test below 0 and the sign of a number. Assumes nothing.
-use Prim.Native.Nat.{ℕ, zero, suc}
-use mathlib.Core.Path.{_≡_, refl, sym, ap, _∙_}
+use mathlib.Core.Path.{_≡_, refl, ap, _∙_}
 use mathlib.Core.Bool.{Bool, true, false, not}
-use lib.IntN.{ℤ, pos, negsuc}
+use lib.IntN.{ℤ, pos}
 use lib.Signed.{nonNeg, ltZ}
 use mir.Syntax.{w64}
 use mir.Val.{SFits, toZ, ofZ}
 use native.Mathlib.Omega.{arith}
-use Rattle.laws.specs.Signed.{above, below}
 use Rattle.laws.proofs.Signs.{whole}
 use Rattle.laws.proofs.Parts.{parts-ltZ, parts-not-ltZ, nonNeg-true, nonNeg-false}
 

@@ -20,7 +20,7 @@ use Rattle.model.specs.View.{View, viewOf}
 use Rattle.titles.specs.Adds.{adds, returned}
 use Rattle.titles.specs.declared.Slot.the-variants.{Extraction, Exports, Imports, Returns, WellExtraction}
 use Rattle.register.specs.Grant.{granted, raisedUnit, raisedAquifer}
-use Rattle.register.specs.Reply.{posted, postedUnits, postedWells, raiseAt, raiseWell}
+use Rattle.register.specs.Reply.{posted, postedUnits, postedWells}
 use Rattle.register.specs.Steps.{Sized, Named, Grantable}
 use Rattle.register.proofs.Raising.{elsewhere}
 
@@ -40,7 +40,8 @@ unraised t k u e₁ e₂ e₃ e₄ = λ i.
       evaporation = u .evaporation;
       storage = u .storage;
       commitment = u .commitment;
-      runoff = u .runoff }
+      runoff = u .runoff;
+    }
 
 unpumped : (t : Title) (k : ℕ) (a : Aquifer) → adds t WellExtraction k ≡ 0 → raisedAquifer t k a ≡ a
 unpumped t k a e = λ i.
@@ -49,7 +50,8 @@ unpumped t k a e = λ i.
       natural = a .natural;
       pumped = a .pumped;
       committed = a .committed;
-      extraction = none (a .extraction) (adds t WellExtraction k) e i }
+      extraction = none (a .extraction) (adds t WellExtraction k) e i;
+    }
 
 -- The place of a number, and another place.
 other : (u k : ℕ) → 0 < u → (k ≡ pred u → ⊥) → u ≡ suc k → ⊥
@@ -68,7 +70,7 @@ module _ {A : Type 0} (raised : ℕ → A → A) (d : A) where
   two-raised : (l : List A) (u w k : ℕ) → 0 < u → u ≤ length l → 0 < w → w ≤ length l → (u ≡ w → ⊥)
       → ((j : ℕ) → (u ≡ suc j → ⊥) → (w ≡ suc j → ⊥) → (a : A) → raised j a ≡ a)
       → getD (set (set l (pred u) (raised (pred u) (getD l (pred u) d))) (pred w)
-        (raised (pred w) (getD (set l (pred u) (raised (pred u) (getD l (pred u) d))) (pred w) d))) k d ≡ raised k (getD l k d)
+      (raised (pred w) (getD (set l (pred u) (raised (pred u) (getD l (pred u) d))) (pred w) d))) k d ≡ raised k (getD l k d)
   two-raised l u w k h g m n ne f =
       let x = raised (pred u) (getD l (pred u) d) in
       let l' = set l (pred u) x in
@@ -122,4 +124,5 @@ posted-view b t s g = λ i.
       aquifers = b .«aquifer_count»;
       aquifer = λ k. well-posted (viewOf b) t (b .aquifers) k (omega (arith, s .aquifers, g .aquifers)) (g .named) i;
       given = next (b .given) i;
-      place = λ k. place-posted (b .titles) (b .given) k (record { title = t; «in_force» = true }) (omega (arith, s .titles, g .room)) i }
+      place = λ k. place-posted (b .titles) (b .given) k (record { title = t; «in_force» = true }) (omega (arith, s .titles, g .room)) i;
+    }

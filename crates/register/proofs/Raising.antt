@@ -1,13 +1,12 @@
 -- What a title adds where it is put in, and that it adds nothing elsewhere. Assumes nothing.
-use Prim.Native.Nat.{ℕ, suc, pred, _+_, _≤_, _<_}
-use mathlib.Core.Path.{_≡_, refl, sym, ap, _∙_}
+use Prim.Native.Nat.{ℕ, suc, pred, _+_, _<_}
+use mathlib.Core.Path.{_≡_, refl, ap}
 use lib.Dec.{eqb}
 use native.Mathlib.Omega.{arith}
 use borrow.Author.Tests.{eq-eqb, ne-eqb}
 use Rattle.laws.specs.Sum.{naturals, only}
 use Rattle.model.specs.declared.Unit.{Unit}
 use Rattle.model.specs.declared.Aquifer.{Aquifer}
-use Rattle.model.specs.declared.Title.{Title}
 use Rattle.model.specs.declared.Title.the-variants.{UnitWithdrawal, AquiferWithdrawal, UnitTransfer, AquiferTransfer}
 use Rattle.titles.specs.Adds.{returned}
 use Rattle.register.specs.Grant.{raisedUnit, raisedAquifer}
@@ -38,7 +37,8 @@ raised-withdrawal n r x u h = λ i.
       evaporation = u .evaporation;
       storage = u .storage;
       commitment = u .commitment;
-      runoff = u .runoff }
+      runoff = u .runoff;
+    }
 
 pub raised-export : (g r x : ℕ) (u : Unit) → 0 < g → (g ≡ r → ⊥) → raisedUnit (UnitTransfer g r x) (pred g) u ≡ exported u x
 raised-export g r x u h e = λ i.
@@ -51,7 +51,8 @@ raised-export g r x u h e = λ i.
       evaporation = u .evaporation;
       storage = u .storage;
       commitment = u .commitment;
-      runoff = u .runoff }
+      runoff = u .runoff;
+    }
 
 pub raised-import : (g r x : ℕ) (u : Unit) → 0 < r → (g ≡ r → ⊥) → raisedUnit (UnitTransfer g r x) (pred r) u ≡ imported u x
 raised-import g r x u h e = λ i.
@@ -64,7 +65,8 @@ raised-import g r x u h e = λ i.
       evaporation = u .evaporation;
       storage = u .storage;
       commitment = u .commitment;
-      runoff = u .runoff }
+      runoff = u .runoff;
+    }
 
 pub raised-bring : (a n x : ℕ) (u : Unit) → 0 < n → raisedUnit (AquiferTransfer a n x) (pred n) u ≡ imported u x
 raised-bring a n x u h = λ i.
@@ -77,7 +79,8 @@ raised-bring a n x u h = λ i.
       evaporation = u .evaporation;
       storage = u .storage;
       commitment = u .commitment;
-      runoff = u .runoff }
+      runoff = u .runoff;
+    }
 
 pub raised-pump : (a x : ℕ) (w : Aquifer) → 0 < a → raisedAquifer (AquiferWithdrawal a x) (pred a) w ≡ pumped w x
 raised-pump a x w h = λ i.
@@ -86,7 +89,8 @@ raised-pump a x w h = λ i.
       natural = w .natural;
       pumped = w .pumped;
       committed = w .committed;
-      extraction = more (w .extraction) _ x (here a x h) i }
+      extraction = more (w .extraction) _ x (here a x h) i;
+    }
 
 pub raised-source : (a n x : ℕ) (w : Aquifer) → 0 < a → raisedAquifer (AquiferTransfer a n x) (pred a) w ≡ pumped w x
 raised-source a n x w h = λ i.
@@ -95,4 +99,5 @@ raised-source a n x w h = λ i.
       natural = w .natural;
       pumped = w .pumped;
       committed = w .committed;
-      extraction = more (w .extraction) _ x (here a x h) i }
+      extraction = more (w .extraction) _ x (here a x h) i;
+    }

@@ -1,22 +1,19 @@
 -- The reply to a grant, by its outcomes. Assumes nothing.
-use Prim.Native.Nat.{ℕ, zero, suc, _+_, _≤_, _<_}
+use Prim.Native.Nat.{ℕ, _+_, _<_}
 use mathlib.Core.Path.{_≡_, refl, sym, ap, _∙_}
-use mathlib.Core.Bool.{Bool, true, false, cond, not}
-use lib.Dec.{eqb}
+use mathlib.Core.Bool.{Bool, true, false, not}
 use native.Mathlib.Omega.{arith}
 use borrow.Author.Tests.{ne-eqb}
-use Rattle.model.specs.declared.Answer.the-variants.{Accepted}
 use Rattle.model.specs.declared.Balance.{Balance}
 use Rattle.model.specs.declared.Title.{Title}
 use Rattle.model.specs.View.{viewOf}
-use Rattle.model.specs.Answers.{Refusal, none, number, refuse, answered}
+use Rattle.model.specs.Answers.{Refusal, none, number, refuse}
 use Rattle.basin.specs.Sound.{sound}
-use Rattle.basin.proofs.Soundness.{Soundness, soundness}
+use Rattle.basin.proofs.Soundness.{soundness}
 use Rattle.register.specs.Grant.{granted, noWater, grantRefusal}
 use Rattle.register.specs.Reply.{posted, afterTest, replied, grantReply}
 use Rattle.register.specs.Steps.{earlyNumber, Grantable, Bounded}
-use Rattle.register.specs.declared.Reply.{Reply}
-use Rattle.register.proofs.Granting.{judged, grant-judged, Granting, granting-of}
+use Rattle.register.proofs.Granting.{judged, grant-judged, granting-of}
 
 module _ (b : Balance) where
   pub bounded-of : sound (viewOf b) ≡ true → Bounded b

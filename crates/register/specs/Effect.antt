@@ -1,7 +1,7 @@
 -- The parts of what a title does. Assumes nothing.
-use Prim.Native.Nat.{ℕ, pred, _+_}
+use Prim.Native.Nat.{ℕ, _+_}
 use mathlib.Core.Bool.{true}
-use lib.ListN.{getD, set}
+use lib.ListN.{set}
 use Rattle.model.specs.declared.Unit.{Unit}
 use Rattle.model.specs.declared.Aquifer.{Aquifer}
 use Rattle.model.specs.declared.Title.{Title}
@@ -19,7 +19,8 @@ withdrawn u volume back =
       evaporation = u .evaporation;
       storage = u .storage;
       commitment = u .commitment;
-      runoff = u .runoff }
+      runoff = u .runoff;
+    }
 
 abbrev pub exported : Unit → ℕ → Unit
 exported u volume =
@@ -32,7 +33,8 @@ exported u volume =
       evaporation = u .evaporation;
       storage = u .storage;
       commitment = u .commitment;
-      runoff = u .runoff }
+      runoff = u .runoff;
+    }
 
 abbrev pub imported : Unit → ℕ → Unit
 imported u volume =
@@ -45,7 +47,8 @@ imported u volume =
       evaporation = u .evaporation;
       storage = u .storage;
       commitment = u .commitment;
-      runoff = u .runoff }
+      runoff = u .runoff;
+    }
 
 abbrev pub pumped : Aquifer → ℕ → Aquifer
 pumped a volume =
@@ -54,7 +57,8 @@ pumped a volume =
       natural = a .natural;
       pumped = a .pumped;
       committed = a .committed;
-      extraction = a .extraction + volume }
+      extraction = a .extraction + volume;
+    }
 
 -- The balance with a unit, or an aquifer, at an index.
 abbrev pub withUnit : Balance → ℕ → Unit → Balance
@@ -65,7 +69,8 @@ withUnit b k u =
       aquifers = b .aquifers;
       «aquifer_count» = b .«aquifer_count»;
       titles = b .titles;
-      given = b .given }
+      given = b .given;
+    }
 
 abbrev pub withAquifer : Balance → ℕ → Aquifer → Balance
 withAquifer b k a =
@@ -75,7 +80,8 @@ withAquifer b k a =
       aquifers = set (b .aquifers) k a;
       «aquifer_count» = b .«aquifer_count»;
       titles = b .titles;
-      given = b .given }
+      given = b .given;
+    }
 
 -- The balance with a title in the next place and in force, and one number more given.
 abbrev pub entered : Balance → Title → Balance
@@ -86,4 +92,5 @@ entered b t =
       aquifers = b .aquifers;
       «aquifer_count» = b .«aquifer_count»;
       titles = set (b .titles) (b .given) (record { title = t; «in_force» = true });
-      given = b .given + 1 }
+      given = b .given + 1;
+    }

@@ -1,15 +1,13 @@
 -- Granting a title, over a view of the entries (document 01, "Titles" and "What each operation refuses"). Assumes nothing.
 use Prim.Native.Nat.{ℕ, suc, pred, _+_}
-use mathlib.Core.Bool.{Bool, true, false, cond, not, _&&_, _||_}
+use mathlib.Core.Bool.{Bool, true, cond, not, _&&_, _||_}
 use lib.Dec.{eqb, leb, ltb}
-use lib.IntN.{pos}
 use lib.Signed.{nonNeg}
 use Rattle.laws.specs.Sum.{every}
 use Rattle.model.specs.declared.Unit.{Unit}
 use Rattle.model.specs.declared.Aquifer.{Aquifer}
 use Rattle.model.specs.declared.Title.{Title}
 use Rattle.model.specs.declared.Title.the-variants.{UnitWithdrawal, AquiferWithdrawal, UnitTransfer, AquiferTransfer}
-use Rattle.model.specs.declared.Place.{Place}
 use Rattle.model.specs.View.{View, termLimit}
 use Rattle.model.specs.Answers.{Refusal, none, refuse}
 use Rattle.titles.specs.Adds.{adds, returned}
@@ -32,7 +30,8 @@ raisedUnit t k u =
       evaporation = u .evaporation;
       storage = u .storage;
       commitment = u .commitment;
-      runoff = u .runoff }
+      runoff = u .runoff;
+    }
 
 abbrev pub raisedAquifer : Title → ℕ → Aquifer → Aquifer
 raisedAquifer t k a =
@@ -41,7 +40,8 @@ raisedAquifer t k a =
       natural = a .natural;
       pumped = a .pumped;
       committed = a .committed;
-      extraction = a .extraction + adds t WellExtraction k }
+      extraction = a .extraction + adds t WellExtraction k;
+    }
 
 -- The view with a title in force: every entry raised by what it adds, and the title under the next number.
 abbrev pub granted : View → Title → View
@@ -52,7 +52,8 @@ granted v t =
       aquifers = v .aquifers;
       aquifer = λ k. raisedAquifer t k (v .aquifer k);
       given = suc (v .given);
-      place = λ k. cond (eqb k (v .given)) (record { title = t; «in_force» = true }) (v .place k) }
+      place = λ k. cond (eqb k (v .given)) (record { title = t; «in_force» = true }) (v .place k);
+    }
 
 -- 16 an entry of the unit or aquifer that the title raises would pass 10,000,000.
 abbrev pub past : ℕ → Bool

@@ -1,6 +1,6 @@
 -- The reply of a call: the answer, the title's number and the balance. Assumes nothing.
-use Prim.Native.Nat.{ℕ, suc, pred, _+_}
-use mathlib.Core.Bool.{true, cond, not}
+use Prim.Native.Nat.{ℕ, pred, _+_}
+use mathlib.Core.Bool.{true, not}
 use mathlib.Core.List.{List}
 use lib.ListN.{getD, set}
 use Rattle.model.specs.declared.Unit.{Unit}
@@ -45,7 +45,8 @@ posted b t =
       aquifers = postedWells t (b .aquifers);
       «aquifer_count» = b .«aquifer_count»;
       titles = set (b .titles) (b .given) (record { title = t; «in_force» = true });
-      given = b .given + 1 }
+      given = b .given + 1;
+    }
 
 -- Every call first gives 0 if the balance is not sound.
 abbrev pub afterTest : Balance → Refusal → Refusal

@@ -1,11 +1,10 @@
 -- The steps of a grant, by the numbers of the refusals; 0 where none applies. Assumes nothing.
-use Prim.Native.Nat.{ℕ, suc, pred, _+_, _≤_, _<_}
+use Prim.Native.Nat.{ℕ, pred, _+_, _≤_, _<_}
 use mathlib.Core.Path.{_≡_}
-use mathlib.Core.Bool.{Bool, true, cond, not, _&&_, _||_}
+use mathlib.Core.Bool.{Bool, cond, not, _&&_, _||_}
 use lib.Dec.{eqb, leb}
 use lib.ListN.{length}
 use lib.Signed.{nonNeg}
-use Rattle.model.specs.declared.Unit.{Unit}
 use Rattle.model.specs.declared.Title.{Title}
 use Rattle.model.specs.declared.Title.the-variants.{UnitWithdrawal, AquiferWithdrawal, UnitTransfer, AquiferTransfer}
 use Rattle.model.specs.declared.Balance.{Balance}

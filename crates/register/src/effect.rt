@@ -5,7 +5,11 @@ ghost use Rattle.register.specs.Reply as replies;
 ghost use Rattle.register.specs.Steps.{Grantable, Sized};
 ghost use Rattle.register.specs.Effect as effects;
 ghost use Rattle.model.specs.declared.Title.the-variants.{UnitWithdrawal, AquiferWithdrawal, UnitTransfer, AquiferTransfer};
-use model::{Aquifer, Balance, Place, Title, Unit};
+use model::Aquifer;
+use model::Balance;
+use model::Place;
+use model::Title;
+use model::Unit;
 
 // A unit with a withdrawal and its return.
 fn withdrawn(mut u: Unit, volume: u32, back: u32) -> Unit
@@ -135,9 +139,17 @@ pub fn post(b: Balance, t: Title) -> Balance
     ensures { λ r. ⌜ r ≡ replies.posted b t ⌝ }
 {
     match t {
-        Title::UnitWithdrawal { unit, usage, volume } => post_withdrawal(b, unit, usage, volume),
+        Title::UnitWithdrawal {
+            unit,
+            usage,
+            volume,
+        } => post_withdrawal(b, unit, usage, volume),
         Title::AquiferWithdrawal { aquifer, volume } => post_pumping(b, aquifer, volume),
         Title::UnitTransfer { from, to, volume } => post_transfer(b, from, to, volume),
-        Title::AquiferTransfer { aquifer, unit, volume } => post_bringing(b, aquifer, unit, volume),
+        Title::AquiferTransfer {
+            aquifer,
+            unit,
+            volume,
+        } => post_bringing(b, aquifer, unit, volume),
     }
 }

@@ -12,7 +12,12 @@ use crate::Reply;
 use crate::effect::post;
 use crate::refusal::early;
 use crate::water::no_water;
-use model::{Answer, Aquifer, Balance, Place, Title, Unit};
+use model::Answer;
+use model::Aquifer;
+use model::Balance;
+use model::Place;
+use model::Title;
+use model::Unit;
 
 // Three arrays have their full length.
 fn lengths(units: [Unit; 64], aquifers: [Aquifer; 32], titles: [Place; 256]) -> bool

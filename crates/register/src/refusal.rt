@@ -9,8 +9,10 @@ ghost use Rattle.river.specs.Flow.{Ready};
 ghost use Rattle.register.specs.Grant as grants;
 ghost use Rattle.register.specs.Steps as steps;
 ghost use Rattle.register.specs.Steps.{Bounded};
-use basin::{exists, is_volume};
-use model::{Balance, Title};
+use basin::exists;
+use basin::is_volume;
+use model::Balance;
+use model::Title;
 
 // An entry that would pass 10,000,000.
 fn past(entry: u32, more: u32) -> bool
@@ -54,7 +56,12 @@ fn withdrawal_number(b: Balance, unit: u8, usage: u8, volume: u32) -> u8
         if exists(7, usage) {
             let k = (unit as usize) - 1;
             let u = b.units[k];
-            let over = either_past(u.extraction, volume, u.returns, titles::returned(usage, volume));
+            let over = either_past(
+                u.extraction,
+                volume,
+                u.returns,
+                titles::returned(usage, volume),
+            );
             return volume_number(b.given, volume, over);
         }
         return 13;
@@ -134,9 +141,17 @@ pub fn early(b: Balance, t: Title) -> u8
     ensures { λ r. ⌜ r ≡ steps.earlyNumber (viewOf b) t ⌝ }
 {
     match t {
-        Title::UnitWithdrawal { unit, usage, volume } => withdrawal_number(b, unit, usage, volume),
+        Title::UnitWithdrawal {
+            unit,
+            usage,
+            volume,
+        } => withdrawal_number(b, unit, usage, volume),
         Title::AquiferWithdrawal { aquifer, volume } => pumping_number(b, aquifer, volume),
         Title::UnitTransfer { from, to, volume } => transfer_number(b, from, to, volume),
-        Title::AquiferTransfer { aquifer, unit, volume } => bringing_number(b, aquifer, unit, volume),
+        Title::AquiferTransfer {
+            aquifer,
+            unit,
+            volume,
+        } => bringing_number(b, aquifer, unit, volume),
     }
 }

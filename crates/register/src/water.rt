@@ -6,7 +6,8 @@ ghost use Rattle.river.specs.Flow.{Ready};
 ghost use Rattle.river.specs.Figures.{WellsReady};
 ghost use Rattle.register.specs.Grant as grants;
 ghost use Rattle.register.specs.Steps as steps;
-use model::{Balance, Title};
+use model::Balance;
+use model::Title;
 use river::UnitFigures;
 
 // A unit of an outlet's basin with a negative flow or a negative availability.
@@ -48,8 +49,8 @@ fn drained(b: Balance, k: usize) -> bool
     ensures { λ r. ⌜ r ≡ grants.drained (viewOf b) k ⌝ }
 {
     let figures = river::aquifer_figures(b);
-    let f = figures[k];
-    f.availability < 0
+    let w = figures[k];
+    w.availability < 0
 }
 
 // No water for a title that is in: in the outlet basin of the unit that gives, or in the aquifer that gives.
@@ -58,9 +59,21 @@ pub fn no_water(b: Balance, t: Title) -> bool
     ensures { λ r. ⌜ r ≡ grants.noWater (viewOf b) t ⌝ }
 {
     match t {
-        Title::UnitWithdrawal { unit, usage: _, volume: _ } => dry(b, (unit as usize) - 1),
+        Title::UnitWithdrawal {
+            unit,
+            usage: _,
+            volume: _,
+        } => dry(b, (unit as usize) - 1),
         Title::AquiferWithdrawal { aquifer, volume: _ } => drained(b, (aquifer as usize) - 1),
-        Title::UnitTransfer { from, to: _, volume: _ } => dry(b, (from as usize) - 1),
-        Title::AquiferTransfer { aquifer, unit: _, volume: _ } => drained(b, (aquifer as usize) - 1),
+        Title::UnitTransfer {
+            from,
+            to: _,
+            volume: _,
+        } => dry(b, (from as usize) - 1),
+        Title::AquiferTransfer {
+            aquifer,
+            unit: _,
+            volume: _,
+        } => drained(b, (aquifer as usize) - 1),
     }
 }

@@ -1,10 +1,11 @@
 -- Laws of flow and of its two natural parts. Assumes nothing.
-use Prim.Native.Nat.{ℕ, zero, suc, _+_, _*_, _≤_, _<_}
-use mathlib.Core.Path.{_≡_, refl, sym, ap, _∙_}
+use Prim.Native.Nat.{ℕ, suc, _+_, _≤_, _<_}
+use mathlib.Core.Path.{_≡_, refl}
 use mathlib.Core.Bool.{Bool, true, false}
 use native.Mathlib.Omega.{arith}
-use Rattle.laws.specs.Sum.{naturals, integers, sumOf}
-use Rattle.laws.specs.Gather.{gather, arriving}
+use lib.IntN.{_+ℤ_}
+use Rattle.laws.specs.Sum.{naturals, integers}
+use Rattle.laws.specs.Gather.{arriving}
 use Rattle.laws.proofs.Gathering.{Tree, gather-is, gather-within, related-gather, sum-bounded, sum-prefix}
 use Rattle.model.specs.View.{View}
 use Rattle.laws.proofs.Parts.{Less, less-pos, less-self, less-plus, less-minus}
@@ -14,7 +15,12 @@ use Rattle.river.specs.Flow.{downstream, net, flow, part, gain, loss, ga
 pub tree : (v : View) → Ready v → Tree (downstream v) (v .units)
 tree v r = record { onward = r .onward }
 
--- The sentence of 4.2.2 for each of the two parts.
+-- The sentence of 4.2.2: flow of a unit = flows of the units that drain straight into it + what it adds by itself.
+pub flow-is : (v : View) (j : ℕ) → flow v j ≡ arriving integers (downstream v) (flow v) j j +ℤ net (v .unit j)
+unfolding flow
+flow-is v j = gather-is integers (downstream v) (λ k. net (v .unit k)) j
+
+-- The same for each of the two parts.
 pub gathered-is : (v : View) (lost : Bool) (j : ℕ)
     → gathered v lost j ≡ arriving naturals (downstream v) (gathered v lost) j j + part lost (v .unit j)
 unfolding gathered
@@ -30,10 +36,12 @@ small v r k h = record { rise = omega (arith, r .losses k h); fall = omega (arit
 pub gathered-small : (v : View) (lost : Bool) → Ready v → (j : ℕ) → j < v .units → gathered v lost j ≤ 2560000000
 unfolding gathered
 gathered-small v lost r j h =
-    omega (arith,
+    omega (
+      arith,
       gather-within (downstream v) (λ k. part lost (v .unit k)) j (record { onward = λ k g. r .onward k (omega arith) }),
       sum-bounded (suc j) 40000000 (λ k. part lost (v .unit k)) (λ k g. part-small v lost r k (omega arith)),
-      r .few)
+      r .few,
+    )
 
 arriving-prefix : (v : View) (lost : Bool) (i j : ℕ) → i ≤ j
     → arriving naturals (downstream v) (gathered v lost) i j ≤ arriving naturals (downstream v) (gathered v lost) j j
@@ -46,10 +54,10 @@ arrived-small v lost r i j h g =
     omega (arith, arriving-prefix v lost i j h, gathered-is v lost j, gathered-small v lost r j g)
 
 -- What a unit adds by itself is what it gains less what it loses.
-net-parts : (u : Unit) → Less (net u) (gain u) (loss u)
+pub net-parts : (u : Unit) → Less (net u) (gain u) (loss u)
 net-parts u =
     let p = less-minus (less-minus (less-minus (less-minus (less-plus (less-plus (less-pos (u .runoff)) (less-pos (u .returns)))
-      (less-pos (u .imports))) (less-pos (u .exports))) (less-pos (u .extraction))) (less-pos (u .evaporation))) (less-self (u .storage)) in
+    (less-pos (u .imports))) (less-pos (u .exports))) (less-pos (u .extraction))) (less-pos (u .evaporation))) (less-self (u .storage)) in
     record { parts = omega (arith, p .parts) }
 
 -- Flow is what is gained at a unit and above it, less what is lost there.

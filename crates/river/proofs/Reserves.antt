@@ -1,5 +1,5 @@
 -- Laws of committed volume and own reserve. Assumes nothing.
-use Prim.Native.Nat.{ℕ, zero, suc, pred, _+_, _-_, _*_, _/_, _≤_, _<_}
+use Prim.Native.Nat.{ℕ, zero, suc, pred, _+_, _-_, _*_, _≤_, _<_}
 use mathlib.Core.Path.{_≡_, refl, sym, ap, _∙_}
 use mathlib.Core.Logic.{⊎-elim}
 use mathlib.Core.Bool.{Bool, true, false, cond}
@@ -8,18 +8,16 @@ use borrow.Author.Tests.{eq-eqb, ne-eqb}
 use native.Mathlib.Nat.{mul-le-mul-right}
 use native.Mathlib.Omega.{arith}
 use Rattle.laws.specs.Sum.{naturals, sumOf, only}
-use Rattle.laws.specs.Gather.{arriving}
-use Rattle.laws.specs.Signed.{above}
 use Rattle.laws.proofs.Cases.{by-eq}
 use lib.IntN.{pos, _-ℤ_}
 use Rattle.laws.proofs.Parts.{less-monus, less-above, less-is, less-pos, less-minus, less-equal}
 use Rattle.river.specs.declared.UnitFigures.{UnitFigures}
 use Rattle.river.specs.Figures.{unitFigures}
 use Rattle.laws.proofs.Gathering.{sum-prefix, sum-monotone}
-use Rattle.laws.proofs.Splitting.{floor-le, floor-mono, floor-all}
+use Rattle.laws.proofs.Splitting.{floor-le}
 use Rattle.model.specs.View.{View}
 use Rattle.river.specs.Flow.{downstream, flow, gathered, Ready}
-use Rattle.river.specs.Reserve.{contribution, inflow, runningTotal, total, demand, share, shareAbove, shareOwn, committedTo, committed, ownReserve}
+use Rattle.river.specs.Reserve.{contribution, runningTotal, total, demand, share, shareAbove, committedTo, committed, ownReserve}
 use Rattle.river.specs.Passes.{Splits, figuresFrom}
 use Rattle.river.proofs.Flows.{flow-parts, gathered-is, gathered-small}
 
@@ -37,14 +35,16 @@ only-within false a b h = omega arith
 -- The total of a unit's contributors is small.
 pub total-small : (v : View) → Ready v → (w : ℕ) → w < v .units → total v w ≤ 2600000000
 total-small v r w h =
-    omega (arith,
+    omega (
+      arith,
       sum-monotone w
-        (λ k. only naturals (eqb (downstream v k) (suc w)) (contribution v k))
-        (λ k. only naturals (eqb (downstream v k) (suc w)) (gathered v false k))
-        (λ k g. only-within (eqb (downstream v k) (suc w)) _ _ (contribution-within v k)),
+          (λ k. only naturals (eqb (downstream v k) (suc w)) (contribution v k))
+          (λ k. only naturals (eqb (downstream v k) (suc w)) (gathered v false k))
+          (λ k g. only-within (eqb (downstream v k) (suc w)) _ _ (contribution-within v k)),
       gathered-is v false w,
       gathered-small v false r w h,
-      r .gains w h)
+      r .gains w h,
+    )
 
 -- The place of the downstream unit of a unit that is no outlet.
 pub record Below (v : View) (j : ℕ) : Type 0 where
@@ -65,9 +65,11 @@ pub running-within : (v : View) (j : ℕ) → Below v j
 unfolding sumOf
 running-within v j b =
     let w = pred (downstream v j) in
-    omega (arith,
+    omega (
+      arith,
       sum-prefix (suc j) w (λ k. only naturals (eqb (downstream v k) (suc w)) (contribution v k)) (b .later),
-      only-same w (downstream v j) (contribution v j) (b .next))
+      only-same w (downstream v j) (contribution v j) (b .next),
+    )
   where
     only-same : (w d a : ℕ) → d ≡ suc w → only naturals (eqb d (suc w)) a ≡ a
     only-same w d a e = rw (eq-eqb d (suc w) e)
@@ -101,9 +103,9 @@ to-small v r (suc way) j h =
     by-eq (downstream v j) 0
     (λ e. omega (arith, to-outlet v (suc way) j e, r .commitments j h))
     (λ e.
-      let b = below-of v r j h e in
-      let w = pred (downstream v j) in
-      omega (arith, to-next v way j e, above-within v j (demand (v .unit w) (committedTo v way w)) b, to-small v r way w (b .within), r .losses w (b .within)))
+    let b = below-of v r j h e in
+    let w = pred (downstream v j) in
+    omega (arith, to-next v way j e, above-within v j (demand (v .unit w) (committedTo v way w)) b, to-small v r way w (b .within), r .losses w (b .within)))
 
 -- A longer way than there are units changes nothing.
 to-longer : (v : View) → Ready v → (f g j : ℕ) → j < v .units → v .units ≤ f + j → v .units ≤ g + j → committedTo v f j ≡ committedTo v g j
@@ -113,11 +115,11 @@ to-longer v r (suc f) (suc g) j h p q =
     by-eq (downstream v j) 0
     (λ e. to-outlet v (suc f) j e ∙ sym (to-outlet v (suc g) j e))
     (λ e.
-      let b = below-of v r j h e in
-      let w = pred (downstream v j) in
-      to-next v f j e
-      ∙ ap (λ (c : ℕ). shareAbove v w (demand (v .unit w) c) j) (to-longer v r f g w (b .within) (omega (arith, b .later)) (omega (arith, b .later)))
-      ∙ sym (to-next v g j e))
+    let b = below-of v r j h e in
+    let w = pred (downstream v j) in
+    to-next v f j e
+    ∙ ap (λ (c : ℕ). shareAbove v w (demand (v .unit w) c) j) (to-longer v r f g w (b .within) (omega (arith, b .later)) (omega (arith, b .later)))
+    ∙ sym (to-next v g j e))
 
 -- An outlet's committed volume is its commitment.
 pub committed-outlet : (v : View) (j : ℕ) → downstream v j ≡ 0 → committed v j ≡ v .unit j .commitment
@@ -143,7 +145,8 @@ splits v r j h =
     record {
       promised = committed-small v r j h;
       asked = omega (arith, committed-small v r j h, r .losses j h);
-      small = omega (arith, total-small v r j h) }
+      small = omega (arith, total-small v r j h);
+    }
 
 -- The figures of a unit from what is gained and lost at it and above it are those that the definitions give.
 figures-are : (v : View) (j : ℕ)
@@ -153,7 +156,8 @@ figures-are v j = λ i.
       flow = sym (less-is (flow-parts v j)) i;
       committed = committed v j;
       reserve = ownReserve v j;
-      availability = available i }
+      availability = available i;
+    }
   where
     available : pos (gathered v false j) -ℤ pos (gathered v true j + committed v j) ≡ flow v j -ℤ pos (committed v j)
     available =

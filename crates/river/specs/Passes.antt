@@ -52,4 +52,5 @@ figuresFrom u gained lost arrived committed =
       flow = pos gained -ℤ pos lost;
       committed = committed;
       reserve = fromOwn u committed arrived;
-      availability = pos gained -ℤ pos (lost + committed) }
+      availability = pos gained -ℤ pos (lost + committed);
+    }

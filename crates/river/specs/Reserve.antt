@@ -3,14 +3,14 @@ use Prim.Native.Nat.{ℕ, zero, suc, pred, _+_, _-_, _*_, _/_}
 use mathlib.Core.Bool.{cond}
 use lib.Dec.{eqb}
 use lib.IntN.{ℤ, pos, _-ℤ_}
-use Rattle.laws.specs.Sum.{naturals, sumOf, only}
+use Rattle.laws.specs.Sum.{naturals}
 use Rattle.laws.specs.Gather.{arriving}
 use Rattle.laws.specs.Signed.{above}
 use Rattle.model.specs.declared.Unit.{Unit}
 use Rattle.model.specs.View.{View}
 use Rattle.river.specs.Flow.{downstream, flow}
 
--- What a unit contributes to its downstream unit: its flow. (Shares while a flow is negative are free: DECISIONS, S6. Such a flow counts as 0.)
+-- What a unit contributes to its downstream unit: its flow. The paper leaves shares open while a flow is negative; such a flow counts as 0.
 abbrev pub contribution : View → ℕ → ℕ
 contribution v j = above (flow v j)
 

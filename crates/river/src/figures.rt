@@ -7,10 +7,16 @@ ghost use Rattle.model.specs.View.{viewOf};
 ghost use Rattle.river.specs.Flow.{Ready, Gathered};
 ghost use Rattle.river.specs.Passes.{RunningTotals, CommittedVolumes, Splits, figuresFrom};
 ghost use Rattle.river.specs.Figures as figures;
-use crate::{AquiferFigures, UnitFigures};
+use crate::AquiferFigures;
+use crate::UnitFigures;
 use crate::flow::gathered;
-use crate::reserve::{Totals, committed, from_own, running};
-use model::{Aquifer, Balance, Unit};
+use crate::reserve::Totals;
+use crate::reserve::committed;
+use crate::reserve::from_own;
+use crate::reserve::running;
+use model::Aquifer;
+use model::Balance;
+use model::Unit;
 
 // A unit's figures from what it gathers, what arrives and what is committed.
 fn of_unit(u: Unit, gained: u64, lost: u64, arrived: u64, committed: u64) -> UnitFigures
@@ -30,7 +36,13 @@ fn of_unit(u: Unit, gained: u64, lost: u64, arrived: u64, committed: u64) -> Uni
 }
 
 // Over the units: the figures of each.
-fn of_units(b: Balance, gained: [u64; 64], lost: [u64; 64], run: Totals, volumes: [u64; 64]) -> [UnitFigures; 64]
+fn of_units(
+    b: Balance,
+    gained: [u64; 64],
+    lost: [u64; 64],
+    run: Totals,
+    volumes: [u64; 64],
+) -> [UnitFigures; 64]
     requires { ⌜ Ready (viewOf b) ⌝ }
     requires { ⌜ Gathered (viewOf b) false gained ⌝ }
     requires { ⌜ Gathered (viewOf b) true lost ⌝ }

@@ -3,7 +3,8 @@ ghost use mathlib.Core.Path.{_≡_};
 ghost use Rattle.model.specs.View.{viewOf};
 ghost use Rattle.river.specs.Flow as flows;
 ghost use Rattle.river.specs.Flow.{Ready, Gathered};
-use model::{Balance, Unit};
+use model::Balance;
+use model::Unit;
 
 // What a unit gains: natural runoff, returns, imports and the fall of its storage.
 fn gain(u: Unit) -> u64

@@ -7,7 +7,8 @@ ghost use Rattle.river.specs.Reserve as reserves;
 ghost use Rattle.river.specs.Passes.{RunningTotals, CommittedVolumes, Splits, fromBelow, fromOwn};
 ghost use mathlib.Core.Bool.{true, false, cond};
 ghost use lib.Dec.{eqb};
-use model::{Balance, Unit};
+use model::Balance;
+use model::Unit;
 
 // The running total before each unit at its downstream unit, and at each unit the total of the units that drain straight into it.
 pub struct Totals {

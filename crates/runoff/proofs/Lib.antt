@@ -2,5 +2,4 @@ pub mod Table
 pub mod Rain
 pub mod Gauged
 pub mod Rounding
-pub mod Cases
 pub mod Record

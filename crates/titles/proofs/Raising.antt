@@ -1,5 +1,5 @@
 -- The steps of the loop over the register. Assumes nothing.
-use Prim.Native.Nat.{ℕ, suc, _+_, _-_, _*_, _≤_, _<_}
+use Prim.Native.Nat.{ℕ, suc, _+_, _-_, _≤_, _<_}
 use mathlib.Core.Path.{_≡_, refl, sym, ap, _∙_}
 use mathlib.Core.List.{List}
 use lib.Dec.{eqb}
@@ -13,7 +13,6 @@ use Rattle.model.specs.declared.Place.{Place}
 use Rattle.model.specs.Fresh.{emptyPlace}
 use Rattle.titles.specs.declared.Slot.{Slot}
 use Rattle.titles.specs.declared.Posting.{Posting}
-use Rattle.titles.specs.Adds.{placeAdds}
 use Rattle.titles.specs.Posting.{posting}
 use Rattle.titles.specs.Titled.{Titled, Roomy, Raised}
 use Rattle.titles.proofs.Posts.{place-posts, only-within}

@@ -1,6 +1,6 @@
 -- What titles add to the entries (document 01, "Titles"). Assumes nothing.
-use Prim.Native.Nat.{ℕ, suc, _+_, _*_, _/_}
-use mathlib.Core.Bool.{Bool, true, false, cond}
+use Prim.Native.Nat.{ℕ, suc, _*_, _/_}
+use mathlib.Core.Bool.{cond}
 use lib.Dec.{eqb}
 use Rattle.laws.specs.Sum.{naturals, sumOf, only}
 use Rattle.model.specs.declared.Title.{Title}

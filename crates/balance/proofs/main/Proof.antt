@@ -1,51 +1,36 @@
+-- `balance::main` meets its contract. Assumes nothing.
 use Rattle.report.proofs.Writing.{counts}
 use borrow.Author.Needs.{needs}
 use Rattle.balance.proofs.main.Statement.{statement}
 use Rattle.balance.proofs.main.Tie as tie
-use Rattle.balance.proofs.main.Reads as reads
-use Rattle.balance.proofs.main.Lts as lts
-use Rattle.io.proofs.read_full.Reads as read-full-reads
-use Rattle.io.proofs.write_all.Reads as write-all-reads
-use Rattle.listing.proofs.print_book.Reads as print-book-reads
-use Rattle.report.proofs.blank.Reads as blank-reads
 
--- src/main.rt:6:41
 slice-aggregate-read-full : tie.Need-slice-aggregate-read-full
 slice-aggregate-read-full c = search needs
 
--- src/main.rt:6:9
 read-full-requires : tie.Need-read-full-requires
 read-full-requires c κs = search needs
 
--- src/main.rt:7:19
 blank-requires : tie.Need-blank-requires
 blank-requires c κs = search needs
 
--- src/main.rt:8:33
 array-share-prefix-book : tie.Need-array-share-prefix-book
 array-share-prefix-book c = search needs
 
--- src/main.rt:8:33
 slice-aggregate-print-book : tie.Need-slice-aggregate-print-book
 slice-aggregate-print-book c = search needs
 
--- src/main.rt:8:9
 print-book-requires : tie.Need-print-book-requires
 print-book-requires c κs = search needs
 
--- src/main.rt:9:34
 array-share-prefix-out : tie.Need-array-share-prefix-out
 array-share-prefix-out c = counts (c .print-book .ensures) .0
 
--- src/main.rt:9:34
 slice-aggregate-write-all : tie.Need-slice-aggregate-write-all
 slice-aggregate-write-all c = counts (c .before .print-book .ensures) .1
 
--- src/main.rt:9:5
 write-all-requires : tie.Need-write-all-requires
 write-all-requires c κs = search needs
 
--- src/main.rt:4:1
 returns : tie.Need-returns
 returns c = search needs
 

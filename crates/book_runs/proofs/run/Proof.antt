@@ -1,120 +1,84 @@
+-- `book_runs::run` meets its contract. Assumes nothing.
 use Rattle.report.proofs.Writing.{counts}
 use borrow.Author.Needs.{needs}
 use Rattle.book_runs.proofs.run.Statement.{statement}
 use Rattle.book_runs.proofs.run.Tie as tie
-use Rattle.book_runs.proofs.run.Reads as reads
-use Rattle.book_runs.proofs.run.Lts as lts
-use Rattle.io.proofs.buffer.Reads as buffer-reads
-use Rattle.io.proofs.read_full.Reads as read-full-reads
-use Rattle.io.proofs.write_all.Reads as write-all-reads
-use Rattle.libc.proofs.close.Reads as close-reads
-use Rattle.listing.proofs.print_book.Reads as print-book-reads
-use Rattle.os.proofs.arg.Reads as arg-reads
-use Rattle.os.proofs.fail.Reads as fail-reads
-use Rattle.os.proofs.open_read.Reads as open-read-reads
-use Rattle.report.proofs.blank.Reads as blank-reads
 
--- src/main.rt:6:20
 buffer-requires : tie.Need-buffer-requires
 buffer-requires c κs = search needs
 
--- src/main.rt:7:29
 slice-aggregate-arg : tie.Need-slice-aggregate-arg
 slice-aggregate-arg c = search needs
 
--- src/main.rt:7:9
 arg-requires : tie.Need-arg-requires
 arg-requires c κs = search needs
 
--- src/main.rt:8:34
 array-share-prefix-path : tie.Need-array-share-prefix-path
 array-share-prefix-path c = search needs
 
--- src/main.rt:8:34
 slice-aggregate-write-all : tie.Need-slice-aggregate-write-all
 slice-aggregate-write-all c = search needs
 
--- src/main.rt:8:5
 write-all-requires : tie.Need-write-all-requires
 write-all-requires c κs = search needs
 
--- src/main.rt:9:34
 slice-aggregate-write-all-2 : tie.Need-slice-aggregate-write-all-2
 slice-aggregate-write-all-2 c = search needs
 
--- src/main.rt:9:5
 write-all-requires-2 : tie.Need-write-all-requires-2
 write-all-requires-2 c κs = search needs
 
--- src/main.rt:10:28
 array-share-prefix-path-2 : tie.Need-array-share-prefix-path-2
 array-share-prefix-path-2 c = search needs
 
--- src/main.rt:10:28
 slice-aggregate-open-read : tie.Need-slice-aggregate-open-read
 slice-aggregate-open-read c = search needs
 
--- src/main.rt:10:9
 open-read-requires : tie.Need-open-read-requires
 open-read-requires c κs = search needs
 
--- src/main.rt:12:18
 array-share-prefix-path-3 : tie.Need-array-share-prefix-path-3
 array-share-prefix-path-3 c = search needs
 
--- src/main.rt:12:18
 slice-aggregate-fail : tie.Need-slice-aggregate-fail
 slice-aggregate-fail c = search needs
 
--- src/main.rt:12:9
 fail-requires : tie.Need-fail-requires
 fail-requires c κs = search needs
 
--- src/main.rt:13:9
 returns : tie.Need-returns
 returns c = search needs
 
--- src/main.rt:16:31
 slice-aggregate-read-full : tie.Need-slice-aggregate-read-full
 slice-aggregate-read-full c = search needs
 
--- src/main.rt:16:9
 read-full-requires : tie.Need-read-full-requires
 read-full-requires c κs = search needs
 
--- src/main.rt:17:5
 close-requires : tie.Need-close-requires
 close-requires c κs = search needs
 
--- src/main.rt:18:19
 blank-requires : tie.Need-blank-requires
 blank-requires c κs = search needs
 
--- src/main.rt:19:33
 array-share-prefix-book : tie.Need-array-share-prefix-book
 array-share-prefix-book c = search needs
 
--- src/main.rt:19:33
 slice-aggregate-print-book : tie.Need-slice-aggregate-print-book
 slice-aggregate-print-book c = search needs
 
--- src/main.rt:19:9
 print-book-requires : tie.Need-print-book-requires
 print-book-requires c κs = search needs
 
--- src/main.rt:20:34
 array-share-prefix-out : tie.Need-array-share-prefix-out
 array-share-prefix-out c = counts (c .print-book .ensures) .0
 
--- src/main.rt:20:34
 slice-aggregate-write-all-3 : tie.Need-slice-aggregate-write-all-3
 slice-aggregate-write-all-3 c = counts (c .before .print-book .ensures) .1
 
--- src/main.rt:20:5
 write-all-requires-3 : tie.Need-write-all-requires-3
 write-all-requires-3 c κs = search needs
 
--- src/main.rt:5:1
 returns-2 : tie.Need-returns-2
 returns-2 c = search needs
 

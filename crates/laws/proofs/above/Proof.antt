@@ -1,5 +1,4 @@
 -- `laws::above` meets its contract. Assumes nothing.
-use mathlib.Core.Path.{_≡_, sym, ap, _∙_}
 use Rattle.laws.proofs.Signs as signs
 use Rattle.laws.proofs.above.Statement.{statement}
 use Rattle.laws.proofs.above.Tie as tie

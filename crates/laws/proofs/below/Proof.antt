@@ -1,5 +1,4 @@
 -- `laws::below` meets its contract. Assumes nothing.
-use mathlib.Core.Path.{_≡_, sym, ap, _∙_}
 use native.Mathlib.Omega.{arith}
 use Rattle.laws.proofs.Signs as signs
 use Rattle.laws.proofs.below.Statement.{statement}

@@ -1,5 +1,4 @@
 -- `laws::plus` meets its contract. Assumes nothing.
-use mathlib.Core.Path.{_≡_}
 use lib.IntN.{_+ℤ_}
 use Rattle.laws.proofs.Signs.{whole}
 use Rattle.laws.proofs.Parts.{plus-fits}

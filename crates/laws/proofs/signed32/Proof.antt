@@ -1,5 +1,4 @@
 -- `laws::signed32` meets its contract. Assumes nothing.
-use mathlib.Core.Path.{_≡_, sym, ap, _∙_}
 use mir.ValLaws.{toZ-pos}
 use mir.Syntax.{w64}
 use lib.IntN.{pos, _-ℤ_}

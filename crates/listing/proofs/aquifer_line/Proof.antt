@@ -1,3 +1,4 @@
+-- `listing::aquifer_line` meets its contract. Assumes nothing.
 use mir.Syntax.{w64}
 use mir.Val.{SFits}
 use native.Mathlib.Numerals.{add-one}
@@ -7,19 +8,13 @@ use Rattle.report.proofs.Writing.{restate}
 use borrow.Author.Needs.{needs}
 use Rattle.listing.proofs.aquifer_line.Statement.{statement}
 use Rattle.listing.proofs.aquifer_line.Tie as tie
-use Rattle.listing.proofs.aquifer_line.Reads as reads
-use Rattle.listing.proofs.aquifer_line.Lts as lts
-use Rattle.report.proofs.aquifer_line.Reads as aquifer-line-reads
 
--- src/lib.rt:62:35
 add-aquifer-line : tie.Need-add-aquifer-line
 add-aquifer-line c = search needs
 
--- src/lib.rt:62:5
 aquifer-line-requires : tie.Need-aquifer-line-requires
 aquifer-line-requires c κs = search needs
 
--- src/lib.rt:56:1
 returns : tie.Need-returns
 returns c =
     let start = c .before .before .before .before in

@@ -1,4 +1,5 @@
-use Prim.Native.Nat.{ℕ, _≤_, _-_, _*_, _+_}
+-- `listing::aquifer_lines` meets its contract. Assumes nothing.
+use Prim.Native.Nat.{_≤_, _-_, _*_}
 use mathlib.Core.Path.{_≡_}
 use lib.ListN.{getD}
 use native.Mathlib.Omega.{arith}
@@ -9,10 +10,6 @@ use Rattle.report.proofs.Writing.{then, widen, restate, still}
 use Rattle.listing.specs.Listing.{linesOf, aquiferText}
 use Rattle.listing.proofs.aquifer_lines.Statement.{statement}
 use Rattle.listing.proofs.aquifer_lines.Tie as tie
-use Rattle.listing.proofs.aquifer_lines.Reads as reads
-use Rattle.listing.proofs.aquifer_lines.Lts as lts
-use Rattle.listing.proofs.aquifer_line.Reads as aquifer-line-reads
-use Rattle.report.proofs.no_line.Reads as no-line-reads
 
 abbrev Inv-loop : tie.InvT-loop
 Inv-loop out₀ at n aquifers p₀ i₀ out p i =
@@ -21,50 +18,41 @@ Inv-loop out₀ at n aquifers p₀ i₀ out p i =
 abbrev μ-loop : tie.MeasureT-loop
 μ-loop out₀ at n aquifers p₀ i₀ out p i = n - i
 
--- src/lib.rt:45:9
 no-line-requires : tie.Need-no-line-requires Inv-loop μ-loop
 no-line-requires c κs = omega arith
 
--- src/lib.rt:47:5
 loop-holds : tie.Need-loop-holds Inv-loop μ-loop
 unfolding linesOf
 loop-holds c = (omega arith, still (c .no-line .ensures))
 
--- src/lib.rt:48:17
 mul-f : tie.Need-mul-f Inv-loop μ-loop
 mul-f c = omega arith
 
--- src/lib.rt:48:17
 array-copy-out-f : tie.Need-array-copy-out-f Inv-loop μ-loop
 array-copy-out-f c = omega arith
 
--- src/lib.rt:49:9
 aquifer-line-requires : tie.Need-aquifer-line-requires Inv-loop μ-loop
 aquifer-line-requires c κs = omega arith
 
--- src/lib.rt:50:9
 add-i : tie.Need-add-i Inv-loop μ-loop
 add-i c = omega arith
 
--- src/lib.rt:47:5
 loop-less : tie.Need-loop-less Inv-loop μ-loop
 loop-less c = omega arith
 
--- src/lib.rt:47:5
 loop-again : tie.Need-loop-again Inv-loop μ-loop
 unfolding linesOf
 loop-again c =
     let turn = c .before .before .before .before .loop in
     (omega arith, rw (add-one (turn .i)) (widen (then (turn .inv .1) (c .aquifer-line .ensures)) (omega arith)))
 
--- src/lib.rt:41:1
 returns : tie.Need-returns Inv-loop μ-loop
 returns c =
     let start = c .before .before .before .before in
     let all : c .before .loop .i ≡ start .args .n = omega arith in
     widen
     (then (c .before .before .no-line .ensures)
-      (restate (c .before .loop .inv .1) (λ i. linesOf (all i) (λ k. aquiferText (getD (start .args .t3) k noAquiferFigures) k))))
+    (restate (c .before .loop .inv .1) (λ i. linesOf (all i) (λ k. aquiferText (getD (start .args .t3) k noAquiferFigures) k))))
     (omega arith)
 
 pub aquifer-lines-spec : {M : Type 1} → statement M

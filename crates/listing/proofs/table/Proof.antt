@@ -1,3 +1,4 @@
+-- `listing::table` meets its contract. Assumes nothing.
 use mathlib.Core.Path.{_≡_, sym, ap, _∙_}
 use mathlib.Core.Bool.{true}
 use native.Mathlib.Omega.{arith}
@@ -9,22 +10,13 @@ use Rattle.listing.proofs.Tables.{accepted-sound, refused-unsound, few-
 use borrow.Author.Needs.{needs}
 use Rattle.listing.proofs.table.Statement.{statement}
 use Rattle.listing.proofs.table.Tie as tie
-use Rattle.listing.proofs.table.Reads as reads
-use Rattle.listing.proofs.table.Lts as lts
-use Rattle.basin.proofs.reply.figures.Reads as figures-reads
-use Rattle.listing.proofs.aquifer_lines.Reads as aquifer-lines-reads
-use Rattle.listing.proofs.unit_lines.Reads as unit-lines-reads
-use Rattle.report.proofs.no_line.Reads as no-line-reads
 
--- src/lib.rt:72:9
 figures-requires : tie.Need-figures-requires
 figures-requires c κs = search needs
 
--- src/lib.rt:78:32
 enum-told : tie.Need-enum-told
 enum-told c = search needs
 
--- src/lib.rt:78:17
 sound-here : (c : tie.After-enum-told) → sound (viewOf (c .before .before .before .before .before .args .b)) ≡ true
 sound-here c =
     accepted-sound (viewOf (c .before .before .before .before .before .args .b)) (ap (λ (r : Figures). r .answer) (sym (c .before .before .before .before .figures .ensures)) ∙ c .enum-told .given .1)
@@ -32,19 +24,15 @@ sound-here c =
 unit-lines-requires : tie.Need-unit-lines-requires
 unit-lines-requires c κs = (few-units (viewOf (c .before .before .before .before .before .before .args .b)) (sound-here (c .before)), omega arith)
 
--- src/lib.rt:79:13
 aquifer-lines-requires : tie.Need-aquifer-lines-requires
 aquifer-lines-requires c κs = (few-aquifers (viewOf (c .before .before .before .before .before .before .before .before .args .b)) (sound-here (c .before .before .before)), omega arith)
 
--- src/lib.rt:81:47
 enum-told-2 : tie.Need-enum-told-2
 enum-told-2 c = search needs
 
--- src/lib.rt:81:31
 no-line-requires : tie.Need-no-line-requires
 no-line-requires c κs = search needs
 
--- src/lib.rt:66:1
 returns : tie.Need-returns
 returns c =
     let v = viewOf (c .before .before .before .before .before .before .before .before .before .args .b) in
@@ -52,15 +40,14 @@ returns c =
     let r = c .before .before .before .before .before .before .before .before .figures .ensures in
     restate
     (then (restate (c .before .before .unit-lines .ensures) (unit-lines-are v s (c .before .before .before .before .before .before .before .before .figures .result .units) (ap (λ (x : Figures). x .units) r)))
-      (restate (c .aquifer-lines .ensures) (aquifer-lines-are v s (c .before .before .before .before .before .before .before .before .figures .result .aquifers) (ap (λ (x : Figures). x .aquifers) r))))
+    (restate (c .aquifer-lines .ensures) (aquifer-lines-are v s (c .before .before .before .before .before .before .before .before .figures .result .aquifers) (ap (λ (x : Figures). x .aquifers) r))))
     (table-is v s)
 
--- src/lib.rt:66:1
 returns-2 : tie.Need-returns-2
 returns-2 c =
     let v = viewOf (c .before .before .before .before .before .before .before .args .b) in
     widen (restate (c .no-line .ensures)
-      (no-table v (refused-unsound v _ (ap (λ (r : Figures). r .answer) (sym (c .before .before .before .before .before .before .figures .ensures)) ∙ c .before .before .enum-told2 .given .1))))
+    (no-table v (refused-unsound v _ (ap (λ (r : Figures). r .answer) (sym (c .before .before .before .before .before .before .figures .ensures)) ∙ c .before .before .enum-told2 .given .1))))
     (omega arith)
 
 pub table-spec : {M : Type 1} → statement M

@@ -1,3 +1,4 @@
+-- `listing::unit_line` meets its contract. Assumes nothing.
 use mir.Syntax.{w64}
 use mir.Val.{SFits}
 use native.Mathlib.Numerals.{add-one}
@@ -7,19 +8,13 @@ use Rattle.report.proofs.Writing.{restate}
 use borrow.Author.Needs.{needs}
 use Rattle.listing.proofs.unit_line.Statement.{statement}
 use Rattle.listing.proofs.unit_line.Tie as tie
-use Rattle.listing.proofs.unit_line.Reads as reads
-use Rattle.listing.proofs.unit_line.Lts as lts
-use Rattle.report.proofs.unit_line.Reads as unit-line-reads
 
--- src/lib.rt:37:32
 add-unit-line : tie.Need-add-unit-line
 add-unit-line c = search needs
 
--- src/lib.rt:37:5
 unit-line-requires : tie.Need-unit-line-requires
 unit-line-requires c κs = search needs
 
--- src/lib.rt:31:1
 returns : tie.Need-returns
 returns c =
     let start = c .before .before .before .before in

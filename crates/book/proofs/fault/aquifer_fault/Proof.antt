@@ -1,35 +1,26 @@
+-- `book::aquifer_fault` meets its contract. Assumes nothing.
 use mathlib.Core.Path.{_∙_, sym}
 use Rattle.book.proofs.Faults.{aquifer-within}
 use Rattle.laws.proofs.Chain.{chain}
 use borrow.Author.Needs.{needs}
 use Rattle.book.proofs.fault.aquifer_fault.Statement.{statement}
 use Rattle.book.proofs.fault.aquifer_fault.Tie as tie
-use Rattle.book.proofs.fault.aquifer_fault.Reads as reads
-use Rattle.book.proofs.fault.aquifer_fault.Lts as lts
-use Rattle.book.proofs.fault.aquifer_outside.Reads as aquifer-outside-reads
-use Rattle.book.proofs.fault.negative_recharge.Reads as negative-recharge-reads
 
--- src/fault.rt:276:9
 returns : tie.Need-returns
 returns c = search chain depth 16
 
--- src/fault.rt:278:8
 aquifer-outside-requires : tie.Need-aquifer-outside-requires
 aquifer-outside-requires c κs = search needs
 
--- src/fault.rt:279:9
 returns-2 : tie.Need-returns-2
 returns-2 c = search chain depth 16
 
--- src/fault.rt:281:8
 negative-recharge-requires : tie.Need-negative-recharge-requires
 negative-recharge-requires c κs = aquifer-within (c .before .before .before .args .a) (sym (c .before .aquifer-outside .ensures) ∙ c .if2 .left) .storage .rise
 
--- src/fault.rt:282:9
 returns-3 : tie.Need-returns-3
 returns-3 c = search chain depth 16
 
--- src/fault.rt:272:1
 returns-4 : tie.Need-returns-4
 returns-4 c = search chain depth 16
 

@@ -1,3 +1,4 @@
+-- `book::aquifer_outside` meets its contract. Assumes nothing.
 use mathlib.Core.Path.{_≡_, ap, _∙_}
 use Rattle.laws.proofs.Signs.{whole-ok}
 use Rattle.book.specs.Fault.{notStorage}
@@ -5,31 +6,22 @@ use Rattle.laws.proofs.Chain.{disjunction}
 use borrow.Author.Needs.{needs}
 use Rattle.book.proofs.fault.aquifer_outside.Statement.{statement}
 use Rattle.book.proofs.fault.aquifer_outside.Tie as tie
-use Rattle.book.proofs.fault.aquifer_outside.Reads as reads
-use Rattle.book.proofs.fault.aquifer_outside.Lts as lts
-use Rattle.book.proofs.fault.storage_outside.Reads as storage-outside-reads
 
--- src/fault.rt:246:9
 returns : tie.Need-returns
 returns c = search disjunction depth 16
 
--- src/fault.rt:249:9
 returns-2 : tie.Need-returns-2
 returns-2 c = search disjunction depth 16
 
--- src/fault.rt:252:9
 returns-3 : tie.Need-returns-3
 returns-3 c = search disjunction depth 16
 
--- src/fault.rt:255:9
 returns-4 : tie.Need-returns-4
 returns-4 c = search disjunction depth 16
 
--- src/fault.rt:257:5
 storage-outside-requires : tie.Need-storage-outside-requires
 storage-outside-requires c κs = search needs
 
--- src/fault.rt:241:1
 storage-is : (c : tie.After-storage-outside) → c .storage-outside .result ≡ notStorage (c .before .before .before .before .before .before .before .before .before .before .args .a .storage)
 storage-is c = c .storage-outside .ensures ∙ ap notStorage (whole-ok (c .before .before .before .before .before .before .before .before .before .before .args .a .storage) (c .before .before .before .before .before .before .before .before .before .struct-told .given .0 .1))
 

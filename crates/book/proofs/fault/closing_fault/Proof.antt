@@ -1,7 +1,7 @@
+-- `book::closing_fault` meets its contract. Assumes nothing.
 use mathlib.Core.Path.{refl}
 use mathlib.Core.Path.{_≡_, sym, ap, _∙_}
-use lib.Dec.{ltb, eqb}
-use borrow.Author.Tests.{eq-eqb, ne-eqb, le-ltb}
+use borrow.Author.Tests.{ne-eqb, le-ltb}
 use Rattle.laws.proofs.Chain.{hit, miss}
 use Rattle.laws.proofs.Signs.{whole}
 use Rattle.book.specs.Fault.{badGauge}
@@ -9,23 +9,16 @@ use Rattle.laws.proofs.Chain.{chain}
 use borrow.Author.Needs.{needs}
 use Rattle.book.proofs.fault.closing_fault.Statement.{statement}
 use Rattle.book.proofs.fault.closing_fault.Tie as tie
-use Rattle.book.proofs.fault.closing_fault.Reads as reads
-use Rattle.book.proofs.fault.closing_fault.Lts as lts
-use Rattle.book.proofs.fault.bad_sum.Reads as bad-sum-reads
 
--- src/fault.rt:62:9
 returns : tie.Need-returns
 returns c = search chain depth 16
 
--- src/fault.rt:65:9
 returns-2 : tie.Need-returns-2
 returns-2 c = search chain depth 16
 
--- src/fault.rt:67:8
 bad-sum-requires : tie.Need-bad-sum-requires
 bad-sum-requires c κs = search needs
 
--- src/fault.rt:68:9
 tested : (c : tie.After-bad-sum)
     → c .bad-sum .result ≡ badGauge (c .before .before .before .args .soils) (c .before .before .before .args .years) (c .before .before .before .args .sum)
 tested c =
@@ -38,7 +31,6 @@ returns-3 c =
     miss _ _ _ _ (ne-eqb (start .args .units) 0 (c .before .before .before .if1 .left))
     (miss _ _ _ _ (le-ltb (start .args .years) 20 (c .before .before .if2 .left)) (hit _ _ _ _ (sym (tested (c .before)) ∙ c .if3 .taken) refl))
 
--- src/fault.rt:57:1
 returns-4 : tie.Need-returns-4
 returns-4 c =
     let start = c .before .before .before .before in

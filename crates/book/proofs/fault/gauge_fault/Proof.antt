@@ -1,30 +1,23 @@
+-- `book::gauge_fault` meets its contract. Assumes nothing.
 use Rattle.laws.proofs.Chain.{chain}
 use Rattle.book.proofs.fault.gauge_fault.Statement.{statement}
 use Rattle.book.proofs.fault.gauge_fault.Tie as tie
-use Rattle.book.proofs.fault.gauge_fault.Reads as reads
-use Rattle.book.proofs.fault.gauge_fault.Lts as lts
 
--- src/fault.rt:223:9
 returns : tie.Need-returns
 returns c = search chain depth 16
 
--- src/fault.rt:226:9
 returns-2 : tie.Need-returns-2
 returns-2 c = search chain depth 16
 
--- src/fault.rt:229:9
 returns-3 : tie.Need-returns-3
 returns-3 c = search chain depth 16
 
--- src/fault.rt:232:9
 returns-4 : tie.Need-returns-4
 returns-4 c = search chain depth 16
 
--- src/fault.rt:235:9
 returns-5 : tie.Need-returns-5
 returns-5 c = search chain depth 16
 
--- src/fault.rt:219:1
 returns-6 : tie.Need-returns-6
 returns-6 c = search chain depth 16
 

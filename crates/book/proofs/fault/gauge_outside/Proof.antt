@@ -1,4 +1,5 @@
-use mathlib.Core.Path.{_≡_, ap, _∙_}
+-- `book::gauge_outside` meets its contract. Assumes nothing.
+use mathlib.Core.Path.{ap, _∙_}
 use borrow.Author.Tests.{le-ltb}
 use Rattle.laws.proofs.Chain.{or-on}
 use Rattle.laws.proofs.Signs.{whole}
@@ -7,27 +8,19 @@ use Rattle.laws.proofs.Chain.{disjunction}
 use borrow.Author.Needs.{needs}
 use Rattle.book.proofs.fault.gauge_outside.Statement.{statement}
 use Rattle.book.proofs.fault.gauge_outside.Tie as tie
-use Rattle.book.proofs.fault.gauge_outside.Reads as reads
-use Rattle.book.proofs.fault.gauge_outside.Lts as lts
-use Rattle.book.proofs.fault.storage_outside.Reads as storage-outside-reads
 
--- src/fault.rt:207:9
 returns : tie.Need-returns
 returns c = search disjunction depth 16
 
--- src/fault.rt:210:9
 returns-2 : tie.Need-returns-2
 returns-2 c = search disjunction depth 16
 
--- src/fault.rt:213:9
 returns-3 : tie.Need-returns-3
 returns-3 c = search disjunction depth 16
 
--- src/fault.rt:215:5
 storage-outside-requires : tie.Need-storage-outside-requires
 storage-outside-requires c κs = search needs
 
--- src/fault.rt:203:1
 returns-4 : tie.Need-returns-4
 returns-4 c =
     let start = c .before .before .before .before in

@@ -1,3 +1,4 @@
+-- `book::negative_recharge` meets its contract. Assumes nothing.
 use Prim.Native.Nat.{_+_}
 use mathlib.Core.Path.{_≡_, _∙_}
 use lib.Dec.{ltb}
@@ -9,24 +10,16 @@ use Rattle.book.proofs.Faults.{less-negative}
 use borrow.Author.Needs.{needs}
 use Rattle.book.proofs.fault.negative_recharge.Statement.{statement}
 use Rattle.book.proofs.fault.negative_recharge.Tie as tie
-use Rattle.book.proofs.fault.negative_recharge.Reads as reads
-use Rattle.book.proofs.fault.negative_recharge.Lts as lts
-use Rattle.laws.proofs.above.Reads as above-reads
-use Rattle.laws.proofs.below.Reads as below-reads
 
--- src/fault.rt:266:9
 above-requires : tie.Need-above-requires
 above-requires c κs = search needs
 
--- src/fault.rt:267:9
 below-requires : tie.Need-below-requires
 below-requires c κs = search needs
 
--- src/fault.rt:268:13
 cast-result : tie.Need-cast-result
 cast-result c = search needs
 
--- src/fault.rt:268:5
 rise-is : (c : tie.After-below) → c .before .above .result ≡ above (c .before .before .before .args .a .storage)
 rise-is c =
     let told = c .before .before .struct-told .given in
@@ -40,15 +33,12 @@ fall-is c =
 add-result : tie.Need-add-result
 add-result c = omega (arith, rise-is (c .before))
 
--- src/fault.rt:268:34
 cast-result-2 : tie.Need-cast-result-2
 cast-result-2 c = search needs
 
--- src/fault.rt:268:5
 add-result-2 : tie.Need-add-result-2
 add-result-2 c = omega (arith, rise-is (c .before .before))
 
--- src/fault.rt:261:1
 returns : tie.Need-returns
 returns c =
     let read = c .before .before in

@@ -1,44 +1,33 @@
+-- `book::soil_fault` meets its contract. Assumes nothing.
 use Rattle.laws.proofs.Chain.{chain}
 use borrow.Author.Needs.{needs}
 use Rattle.book.proofs.fault.soil_fault.Statement.{statement}
 use Rattle.book.proofs.fault.soil_fault.Tie as tie
-use Rattle.book.proofs.fault.soil_fault.Reads as reads
-use Rattle.book.proofs.fault.soil_fault.Lts as lts
-use Rattle.book.proofs.fault.soil_outside.Reads as soil-outside-reads
 
--- src/fault.rt:157:9
 returns : tie.Need-returns
 returns c = search chain depth 16
 
--- src/fault.rt:160:9
 returns-2 : tie.Need-returns-2
 returns-2 c = search chain depth 16
 
--- src/fault.rt:163:9
 returns-3 : tie.Need-returns-3
 returns-3 c = search chain depth 16
 
--- src/fault.rt:166:9
 returns-4 : tie.Need-returns-4
 returns-4 c = search chain depth 16
 
--- src/fault.rt:168:8
 soil-outside-requires : tie.Need-soil-outside-requires
 soil-outside-requires c κs = search needs
 
--- src/fault.rt:169:9
 returns-5 : tie.Need-returns-5
 returns-5 c = search chain depth 16
 
--- src/fault.rt:171:17
 add-if6 : tie.Need-add-if6
 add-if6 c = search needs
 
--- src/fault.rt:172:9
 returns-6 : tie.Need-returns-6
 returns-6 c = search chain depth 16
 
--- src/fault.rt:152:1
 returns-7 : tie.Need-returns-7
 returns-7 c = search chain depth 16
 

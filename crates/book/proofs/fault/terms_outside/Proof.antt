@@ -1,26 +1,20 @@
+-- `book::terms_outside` meets its contract. Assumes nothing.
 use Rattle.laws.proofs.Chain.{disjunction}
 use Rattle.book.proofs.fault.terms_outside.Statement.{statement}
 use Rattle.book.proofs.fault.terms_outside.Tie as tie
-use Rattle.book.proofs.fault.terms_outside.Reads as reads
-use Rattle.book.proofs.fault.terms_outside.Lts as lts
 
--- src/fault.rt:28:9
 returns : tie.Need-returns
 returns c = search disjunction depth 16
 
--- src/fault.rt:31:9
 returns-2 : tie.Need-returns-2
 returns-2 c = search disjunction depth 16
 
--- src/fault.rt:34:9
 returns-3 : tie.Need-returns-3
 returns-3 c = search disjunction depth 16
 
--- src/fault.rt:37:9
 returns-4 : tie.Need-returns-4
 returns-4 c = search disjunction depth 16
 
--- src/fault.rt:24:1
 returns-5 : tie.Need-returns-5
 returns-5 c = search disjunction depth 16
 

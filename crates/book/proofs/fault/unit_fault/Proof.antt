@@ -1,41 +1,30 @@
+-- `book::unit_fault` meets its contract. Assumes nothing.
 use Rattle.laws.proofs.Chain.{chain}
 use borrow.Author.Needs.{needs}
 use Rattle.book.proofs.fault.unit_fault.Statement.{statement}
 use Rattle.book.proofs.fault.unit_fault.Tie as tie
-use Rattle.book.proofs.fault.unit_fault.Reads as reads
-use Rattle.book.proofs.fault.unit_fault.Lts as lts
-use Rattle.book.proofs.fault.not_onward.Reads as not-onward-reads
-use Rattle.book.proofs.fault.unit_outside.Reads as unit-outside-reads
 
--- src/fault.rt:115:9
 returns : tie.Need-returns
 returns c = search chain depth 16
 
--- src/fault.rt:118:9
 returns-2 : tie.Need-returns-2
 returns-2 c = search chain depth 16
 
--- src/fault.rt:120:8
 unit-outside-requires : tie.Need-unit-outside-requires
 unit-outside-requires c κs = search needs
 
--- src/fault.rt:121:9
 returns-3 : tie.Need-returns-3
 returns-3 c = search chain depth 16
 
--- src/fault.rt:123:33
 add-not-onward : tie.Need-add-not-onward
 add-not-onward c = search needs
 
--- src/fault.rt:123:8
 not-onward-requires : tie.Need-not-onward-requires
 not-onward-requires c κs = search needs
 
--- src/fault.rt:124:9
 returns-4 : tie.Need-returns-4
 returns-4 c = search chain depth 16
 
--- src/fault.rt:111:1
 returns-5 : tie.Need-returns-5
 returns-5 c = search chain depth 16
 

@@ -1,3 +1,4 @@
+-- `book::unit_outside` meets its contract. Assumes nothing.
 use mathlib.Core.Path.{_≡_, ap, _∙_}
 use Rattle.laws.proofs.Signs.{whole-ok}
 use Rattle.book.specs.Fault.{notStorage}
@@ -5,37 +6,25 @@ use Rattle.laws.proofs.Chain.{disjunction}
 use borrow.Author.Needs.{needs}
 use Rattle.book.proofs.fault.unit_outside.Statement.{statement}
 use Rattle.book.proofs.fault.unit_outside.Tie as tie
-use Rattle.book.proofs.fault.unit_outside.Reads as reads
-use Rattle.book.proofs.fault.unit_outside.Lts as lts
-use Rattle.book.proofs.fault.storage_outside.Reads as storage-outside-reads
-use Rattle.book.proofs.fault.stray_commitment.Reads as stray-commitment-reads
-use Rattle.book.proofs.fault.terms_outside.Reads as terms-outside-reads
 
--- src/fault.rt:88:8
 terms-outside-requires : tie.Need-terms-outside-requires
 terms-outside-requires c κs = search needs
 
--- src/fault.rt:89:9
 returns : tie.Need-returns
 returns c = search disjunction depth 16
 
--- src/fault.rt:92:9
 returns-2 : tie.Need-returns-2
 returns-2 c = search disjunction depth 16
 
--- src/fault.rt:94:8
 stray-commitment-requires : tie.Need-stray-commitment-requires
 stray-commitment-requires c κs = search needs
 
--- src/fault.rt:95:9
 returns-3 : tie.Need-returns-3
 returns-3 c = search disjunction depth 16
 
--- src/fault.rt:97:5
 storage-outside-requires : tie.Need-storage-outside-requires
 storage-outside-requires c κs = search needs
 
--- src/fault.rt:84:1
 storage-is : (c : tie.After-storage-outside) → c .storage-outside .result ≡ notStorage (c .before .before .before .before .before .before .before .before .args .u .storage)
 storage-is c = c .storage-outside .ensures ∙ ap notStorage (whole-ok (c .before .before .before .before .before .before .before .before .args .u .storage) (c .before .before .before .before .before .before .before .struct-told .given .1 .1 .1 .1 .1 .1 .1 .0 .1))
 

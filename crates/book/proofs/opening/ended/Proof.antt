@@ -1,3 +1,4 @@
+-- `book::ended` meets its contract. Assumes nothing.
 use mathlib.Core.Path.{_≡_, refl, sym, ap, _∙_}
 use native.Mathlib.Omega.{arith}
 use borrow.Author.Tests.{eq-eqb, ne-eqb}
@@ -9,30 +10,20 @@ use Rattle.book.specs.Opening.{refusedWith}
 use borrow.Author.Needs.{needs}
 use Rattle.book.proofs.opening.ended.Statement.{statement}
 use Rattle.book.proofs.opening.ended.Tie as tie
-use Rattle.book.proofs.opening.ended.Reads as reads
-use Rattle.book.proofs.opening.ended.Lts as lts
-use Rattle.book.proofs.fault.closing_fault.Reads as closing-fault-reads
-use Rattle.book.proofs.opening.counted.Reads as counted-reads
-use Rattle.book.proofs.opening.refused.Reads as refused-reads
-use Rattle.book.proofs.opening.stored.Reads as stored-reads
-use Rattle.book.proofs.opening.tested.Reads as tested-reads
 
--- src/opening.rt:105:9
 closing-fault-requires : tie.Need-closing-fault-requires
 closing-fault-requires c κs = search needs
 
--- src/opening.rt:107:9
 refused-requires : tie.Need-refused-requires
 refused-requires c κs = search needs
 
--- src/opening.rt:107:9
 closing-is : (c : tie.After-closing-fault) → c .closing-fault .result ≡ closingFault (c .before .before .args .n) (c .before .before .args .u)
 closing-is c =
     let start = c .before .before in
     let u = start .args .u in
     c .closing-fault .ensures
     ∙ ap (closingBy (start .args .n) (u .soils) (u .years))
-      (whole (u .sum) (parts-fit (u .sum) (omega (arith, start .pre .sane .gains, start .pre .sane .short)) (omega (arith, start .pre .sane .losses, start .pre .sane .short))))
+    (whole (u .sum) (parts-fit (u .sum) (omega (arith, start .pre .sane .gains, start .pre .sane .short)) (omega (arith, start .pre .sane .losses, start .pre .sane .short))))
 
 returns : tie.Need-returns
 returns c =
@@ -41,23 +32,19 @@ returns c =
     ∙ (λ i. refusedWith (closing-is (c .before .before) i) (start .args .u .at))
     ∙ miss _ _ _ _ (ne-eqb (closingFault (start .args .n) (start .args .u)) 0 (λ e. c .before .if1 .taken (closing-is (c .before .before) ∙ e))) refl
 
--- src/opening.rt:109:20
 stored-requires : tie.Need-stored-requires
 stored-requires c κs =
     let start = c .before .before .before in
     (start .pre .room, λ h. start .pre .closed (sym (closing-is (c .before)) ∙ c .if1 .left) (omega arith))
 
--- src/opening.rt:109:12
 counted-requires : tie.Need-counted-requires
 counted-requires c κs = search needs
 
--- src/opening.rt:109:5
 tested-requires : tie.Need-tested-requires
 tested-requires c κs =
     let start = c .before .before .before .before .before in
     rw (c .counted .ensures, c .before .stored .ensures) (start .pre .full (sym (closing-is (c .before .before .before)) ∙ c .before .before .if1 .left))
 
--- src/opening.rt:100:1
 returns-2 : tie.Need-returns-2
 returns-2 c =
     let start = c .before .before .before .before .before .before in

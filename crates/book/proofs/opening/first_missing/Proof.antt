@@ -1,5 +1,6 @@
+-- `book::first_missing` meets its contract. Assumes nothing.
 use Prim.Native.Nat.{ℕ, _≤_, _<_, _-_}
-use mathlib.Core.Path.{_≡_, sym}
+use mathlib.Core.Path.{sym}
 use native.Mathlib.Omega.{arith}
 use borrow.Author.Needs.{needs}
 use borrow.Author.Count.{below-none, below-more}
@@ -9,8 +10,6 @@ use Rattle.river.specs.Flow.{downstream}
 use Rattle.river.proofs.Firsts.{first-at, first-nothing}
 use Rattle.book.proofs.opening.first_missing.Statement.{statement}
 use Rattle.book.proofs.opening.first_missing.Tie as tie
-use Rattle.book.proofs.opening.first_missing.Reads as reads
-use Rattle.book.proofs.opening.first_missing.Lts as lts
 
 abbrev Inv-loop : tie.InvT-loop
 Inv-loop b n i₀ i = (i ≤ n) × ((k : ℕ) → k < i → downstream (viewOf b) k ≤ n)
@@ -18,41 +17,32 @@ Inv-loop b n i₀ i = (i ≤ n) × ((k : ℕ) → k < i → downstream (viewOf b
 abbrev μ-loop : tie.MeasureT-loop
 μ-loop b n i₀ i = n - i
 
--- src/opening.rt:57:5
 loop-holds : tie.Need-loop-holds Inv-loop μ-loop
 loop-holds c = (omega arith, below-none _)
 
--- src/opening.rt:61:17
 mul-u : tie.Need-mul-u Inv-loop μ-loop
 mul-u c = omega arith
 
--- src/opening.rt:61:17
 element-copy-out-u : tie.Need-element-copy-out-u Inv-loop μ-loop
 element-copy-out-u c = omega arith
 
--- src/opening.rt:62:17
 cast-d : tie.Need-cast-d Inv-loop μ-loop
 cast-d c = search needs
 
--- src/opening.rt:66:9
 add-i : tie.Need-add-i Inv-loop μ-loop
 add-i c = omega arith
 
--- src/opening.rt:57:5
 loop-less : tie.Need-loop-less Inv-loop μ-loop
 loop-less c = omega arith
 
--- src/opening.rt:57:5
 loop-again : tie.Need-loop-again Inv-loop μ-loop
 loop-again c = (omega arith, below-more _ _ (c .before .before .before .before .loop .inv .1) (c .if2 .left))
 
--- src/opening.rt:51:1
 returns : tie.Need-returns Inv-loop μ-loop
 returns c =
     let v = viewOf (c .before .before .args .t1) in
     sym (first-nothing _ (v .units) (λ k h. le-ltb (v .units) (downstream v k) (c .before .loop .inv .1 k (omega (arith, c .if1 .taken)))))
 
--- src/opening.rt:51:1
 returns-2 : tie.Need-returns-2 Inv-loop μ-loop
 returns-2 c =
     let v = viewOf (c .before .before .before .before .before .args .t1) in

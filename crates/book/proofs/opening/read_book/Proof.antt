@@ -1,3 +1,4 @@
+-- `book::read_book` meets its contract. Assumes nothing.
 use lib.ListN.{length}
 use Rattle.book.specs.Reading.{lastUnit}
 use mathlib.Core.Path.{_≡_, sym, _∙_}
@@ -8,15 +9,6 @@ use Rattle.book.proofs.Facts.{closing-clean}
 use Rattle.book.proofs.Following.{Reached, reached-start, reached-ends, reached-refused, opens-facts, reached-opens, reached-grows, adds-room, reached-adds, reached-over, reached-ready}
 use Rattle.book.proofs.opening.read_book.Statement.{statement}
 use Rattle.book.proofs.opening.read_book.Tie as tie
-use Rattle.book.proofs.opening.read_book.Reads as reads
-use Rattle.book.proofs.opening.read_book.Lts as lts
-use Rattle.book.proofs.opening.ended.Reads as ended-reads
-use Rattle.book.proofs.opening.no_unit.Reads as no-unit-reads
-use Rattle.book.proofs.opening.refused.Reads as refused-reads
-use Rattle.book.proofs.opening.stored.Reads as stored-reads
-use Rattle.book.proofs.opening.with_aquifer.Reads as with-aquifer-reads
-use Rattle.book.proofs.step.next.Reads as next-reads
-use Rattle.model.proofs.Balance.fresh.Reads as fresh-reads
 
 abbrev Inv-loop : tie.InvT-loop
 Inv-loop s b₀ unit₀ units₀ aquifers₀ at₀ left₀ b unit units aquifers at left = Reached s b unit units aquifers at left
@@ -24,115 +16,89 @@ Inv-loop s b₀ unit₀ units₀ aquifers₀ at₀ left₀ b unit units aquifers
 abbrev μ-loop : tie.MeasureT-loop
 μ-loop s b₀ unit₀ units₀ aquifers₀ at₀ left₀ b unit units aquifers at left = left
 
--- src/opening.rt:138:9
 fresh-requires : tie.Need-fresh-requires Inv-loop μ-loop
 fresh-requires c κs = search needs
 
--- src/opening.rt:139:9
 no-unit-requires : tie.Need-no-unit-requires Inv-loop μ-loop
 no-unit-requires c κs = search needs
 
--- src/opening.rt:143:20
 add-left : tie.Need-add-left Inv-loop μ-loop
 add-left c = search needs
 
--- src/opening.rt:144:5
 loop-holds : tie.Need-loop-holds Inv-loop μ-loop
 loop-holds c = rw (c .before .fresh .ensures, c .no-unit .ensures) (reached-start (c .before .before .before .args .s .now))
 
--- src/opening.rt:145:9
 sub-left : tie.Need-sub-left Inv-loop μ-loop
 sub-left c = c .loop-test .taken
 
--- src/opening.rt:146:13
 next-requires : tie.Need-next-requires Inv-loop μ-loop
 next-requires c κs = (c .before .loop .inv .within, rw (c .before .loop .inv .last) (c .before .loop .inv .good .sane))
 
--- src/opening.rt:149:17
 enum-told : tie.Need-enum-told Inv-loop μ-loop
 enum-told c = search needs
 
--- src/opening.rt:149:17
 ended-requires : tie.Need-ended-requires Inv-loop μ-loop
 ended-requires c κs = reached-ready (c .before .before .before .before .before .before .before .before .args .s .now) _ _ _ _ _ _ (c .before .before .before .before .loop .inv)
 
--- src/opening.rt:149:17
 returns : tie.Need-returns Inv-loop μ-loop
 returns c = c .ended .ensures ∙ reached-ends (c .before .before .before .before .before .before .before .before .before .args .s .now) _ _ _ _ _ _ (c .before .before .before .before .before .loop .inv) (c .before .before .before .before .loop-test .taken) (sym (c .before .before .before .next .ensures) ∙ c .before .enum-told .given .1)
 
--- src/opening.rt:151:29
 enum-known-step : tie.Need-enum-known-step Inv-loop μ-loop
 enum-known-step c = search needs
 
--- src/opening.rt:152:17
 refused-requires : tie.Need-refused-requires Inv-loop μ-loop
 refused-requires c κs = search needs
 
--- src/opening.rt:152:17
 returns-2 : tie.Need-returns-2 Inv-loop μ-loop
 returns-2 c = c .refused .ensures ∙ reached-refused (c .before .before .before .before .before .before .before .before .before .before .args .s .now) _ _ _ _ _ _ (c .before .before .before .before .before .before .loop .inv) (c .before .before .before .before .before .loop-test .taken) _ _ (sym (c .before .before .before .before .next .ensures) ∙ c .before .before .step .given .1)
 
--- src/opening.rt:154:33
 enum-known-step-2 : tie.Need-enum-known-step-2 Inv-loop μ-loop
 enum-known-step-2 c = search needs
 
--- src/opening.rt:155:17
 stored-requires : tie.Need-stored-requires Inv-loop μ-loop
 stored-requires c κs =
     let r = c .before .before .before .before .before .loop .inv in
-    let f = opens-facts (c .before .before .before .before .before .before .before .before .before .args .s .now) _ _ _ _ _ _ (c .before .before .before .before .before .loop .inv) (c .before .before .before .before .loop-test .taken) _ _ (sym (c .before .before .before .next .ensures) ∙ c .before .step2 .given .1) in
-    (omega (arith, r .count, r .good .few),
-      λ h. rw (r .last) (closing-clean (length (r .description .units)) (lastUnit (r .description)) (f .closing) (omega (arith, r .count)) (r .good .sane)))
+    let f = opens-facts (c .before .before .before .before .before .before .before .before .before .args .s .now) _ _ _ _ _ _ (c .before .before .before .before .before .loop .inv) (c .before .before .before .before .loop-test .taken) _ _ (sym (c .before .before .before .next .ensures) ∙ c .before .step2 .given .1) in (
+      omega (arith, r .count, r .good .few),
+      λ h. rw (r .last) (closing-clean (length (r .description .units)) (lastUnit (r .description)) (f .closing) (omega (arith, r .count)) (r .good .sane)),
+    )
 
--- src/opening.rt:157:17
 add-units : tie.Need-add-units Inv-loop μ-loop
 add-units c = omega (arith, c .before .before .before .before .before .before .loop .inv .count, c .before .before .before .before .before .before .loop .inv .good .few)
 
--- src/opening.rt:144:5
 loop-less : tie.Need-loop-less Inv-loop μ-loop
 loop-less c = falls-down _ (c .before .before .before .before .before .loop-test .taken)
 
--- src/opening.rt:144:5
 loop-again : tie.Need-loop-again Inv-loop μ-loop
 loop-again c = rw (c .stored .ensures) (reached-opens (c .before .before .before .before .before .before .before .before .before .before .args .s .now) _ _ _ _ _ _ (c .before .before .before .before .before .before .loop .inv) (c .before .before .before .before .before .loop-test .taken) _ _ (sym (c .before .before .before .before .next .ensures) ∙ c .before .before .step2 .given .1))
 
--- src/opening.rt:160:33
 enum-known-step-3 : tie.Need-enum-known-step-3 Inv-loop μ-loop
 enum-known-step-3 c = search needs
 
--- src/opening.rt:144:5
 loop-less-2 : tie.Need-loop-less-2 Inv-loop μ-loop
 loop-less-2 c = falls-down _ (c .before .before .before .before .loop-test .taken)
 
--- src/opening.rt:144:5
 loop-again-2 : tie.Need-loop-again-2 Inv-loop μ-loop
 loop-again-2 c = reached-grows (c .before .before .before .before .before .before .before .before .before .args .s .now) _ _ _ _ _ _ (c .before .before .before .before .before .loop .inv) (c .before .before .before .before .loop-test .taken) _ _ (sym (c .before .before .before .next .ensures) ∙ c .before .step3 .given .1)
 
--- src/opening.rt:164:26
 enum-known-step-4 : tie.Need-enum-known-step-4 Inv-loop μ-loop
 enum-known-step-4 c = search needs
 
--- src/opening.rt:165:17
 with-aquifer-requires : tie.Need-with-aquifer-requires Inv-loop μ-loop
 with-aquifer-requires c κs = adds-room (c .before .before .before .before .before .before .before .before .before .args .s .now) _ _ _ _ _ _ (c .before .before .before .before .before .loop .inv) (c .before .before .before .before .loop-test .taken) _ _ (sym (c .before .before .before .next .ensures) ∙ c .before .step4 .given .1)
 
--- src/opening.rt:166:17
 add-aquifers : tie.Need-add-aquifers Inv-loop μ-loop
 add-aquifers c = omega (arith, c .before .before .before .before .before .before .loop .inv .wells, c .before .before .before .before .before .before .loop .inv .good .many)
 
--- src/opening.rt:144:5
 loop-less-3 : tie.Need-loop-less-3 Inv-loop μ-loop
 loop-less-3 c = falls-down _ (c .before .before .before .before .before .loop-test .taken)
 
--- src/opening.rt:144:5
 loop-again-3 : tie.Need-loop-again-3 Inv-loop μ-loop
 loop-again-3 c = rw (c .with-aquifer .ensures) (reached-adds (c .before .before .before .before .before .before .before .before .before .before .args .s .now) _ _ _ _ _ _ (c .before .before .before .before .before .before .loop .inv) (c .before .before .before .before .before .loop-test .taken) _ _ (sym (c .before .before .before .before .next .ensures) ∙ c .before .before .step4 .given .1))
 
--- src/opening.rt:171:5
 refused-requires-2 : tie.Need-refused-requires-2 Inv-loop μ-loop
 refused-requires-2 c κs = search needs
 
--- src/opening.rt:135:1
 returns-3 : tie.Need-returns-3 Inv-loop μ-loop
 returns-3 c =
     let e : c .before .before .loop .left ≡ 0 = omega (arith, c .before .loop-test .left) in

@@ -1,5 +1,6 @@
+-- `book::stored` meets its contract. Assumes nothing.
 use Prim.Native.Nat.{_-_}
-use mathlib.Core.Path.{_≡_, refl, ap}
+use mathlib.Core.Path.{refl, ap}
 use native.Mathlib.Omega.{arith}
 use borrow.Author.Tests.{eq-eqb, ne-eqb}
 use Rattle.laws.proofs.Chain.{hit, miss}
@@ -7,31 +8,22 @@ use Rattle.book.specs.Opening.{putUnit}
 use borrow.Author.Needs.{needs}
 use Rattle.book.proofs.opening.stored.Statement.{statement}
 use Rattle.book.proofs.opening.stored.Tie as tie
-use Rattle.book.proofs.opening.stored.Reads as reads
-use Rattle.book.proofs.opening.stored.Lts as lts
-use Rattle.book.proofs.record.unit_of.Reads as unit-of-reads
 
--- src/opening.rt:33:9
 returns : tie.Need-returns
 returns c = hit _ _ _ _ (eq-eqb (c .before .args .n) 0 (c .if1 .taken)) refl
 
--- src/opening.rt:35:13
 sub-k : tie.Need-sub-k
 sub-k c = search needs
 
--- src/opening.rt:36:9
 unit-of-requires : tie.Need-unit-of-requires
 unit-of-requires c κs = c .before .pre .1 (omega (arith, c .if1 .left))
 
--- src/opening.rt:37:5
 mul-unit : tie.Need-mul-unit
 mul-unit c = search needs
 
--- src/opening.rt:37:5
 element-set-from-unit : tie.Need-element-set-from-unit
 element-set-from-unit c = search needs
 
--- src/opening.rt:27:1
 returns-2 : tie.Need-returns-2
 returns-2 c =
     let start = c .before .before in

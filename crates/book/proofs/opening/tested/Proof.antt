@@ -1,66 +1,51 @@
-use mathlib.Core.Path.{_≡_, sym, _∙_}
+-- `book::tested` meets its contract. Assumes nothing.
+use mathlib.Core.Path.{sym, _∙_}
 use native.Mathlib.Omega.{arith}
 use Rattle.model.specs.View.{viewOf}
 use Rattle.book.proofs.Ending.{ready-of, missing-below, negative-below, tested-missing, tested-negative, tested-accepted}
 use borrow.Author.Needs.{needs}
 use Rattle.book.proofs.opening.tested.Statement.{statement}
 use Rattle.book.proofs.opening.tested.Tie as tie
-use Rattle.book.proofs.opening.tested.Reads as reads
-use Rattle.book.proofs.opening.tested.Lts as lts
-use Rattle.book.proofs.opening.first_missing.Reads as first-missing-reads
-use Rattle.book.proofs.opening.refused.Reads as refused-reads
-use Rattle.river.proofs.first_negative.Reads as first-negative-reads
 
--- src/opening.rt:84:9
 first-missing-requires : tie.Need-first-missing-requires
 first-missing-requires c κs = search needs
 
--- src/opening.rt:85:22
 enum-known-missing : tie.Need-enum-known-missing
 enum-known-missing c = search needs
 
--- src/opening.rt:86:27
 add-refused : tie.Need-add-refused
 add-refused c = omega (arith, missing-below (viewOf (c .before .before .before .before .args .b)) _ (sym (c .before .before .before .first-missing .ensures) ∙ c .before .missing .given .1), c .before .before .before .before .pre .few)
 
--- src/opening.rt:86:9
 refused-requires : tie.Need-refused-requires
 refused-requires c κs = search needs
 
--- src/opening.rt:86:9
 returns : tie.Need-returns
 returns c = c .refused .ensures ∙ tested-missing (c .before .before .before .before .before .args .b) (c .before .before .before .before .before .args .at) _ (sym (c .before .before .before .before .first-missing .ensures) ∙ c .before .before .missing .given .1)
 
 enum-told : tie.Need-enum-told
 enum-told c = search needs
 
--- src/opening.rt:88:9
 first-negative-requires : tie.Need-first-negative-requires
 first-negative-requires c κs = ready-of _ (c .before .before .before .pre) (sym (c .before .before .first-missing .ensures) ∙ c .enum-told .given .1)
 
--- src/opening.rt:89:22
 enum-known-negative : tie.Need-enum-known-negative
 enum-known-negative c = search needs
 
--- src/opening.rt:90:28
 add-refused-2 : tie.Need-add-refused-2
 add-refused-2 c = omega (arith, negative-below (viewOf (c .before .before .before .before .before .before .before .args .b)) _ (sym (c .before .before .before .first-negative .ensures) ∙ c .before .negative .given .1), c .before .before .before .before .before .before .before .pre .few)
 
--- src/opening.rt:90:9
 refused-requires-2 : tie.Need-refused-requires-2
 refused-requires-2 c κs = search needs
 
--- src/opening.rt:90:9
 returns-2 : tie.Need-returns-2
 returns-2 c =
     c .refused2 .ensures
     ∙ tested-negative (c .before .before .before .before .before .before .before .before .args .b) (c .before .before .before .before .before .before .before .before .args .at) _ (sym (c .before .before .before .before .before .before .before .first-missing .ensures) ∙ c .before .before .before .before .before .enum-told .given .1)
-      (sym (c .before .before .before .before .first-negative .ensures) ∙ c .before .before .negative .given .1)
+    (sym (c .before .before .before .before .first-negative .ensures) ∙ c .before .before .negative .given .1)
 
 enum-told-2 : tie.Need-enum-told-2
 enum-told-2 c = search needs
 
--- src/opening.rt:80:1
 returns-3 : tie.Need-returns-3
 returns-3 c =
     tested-accepted (c .before .before .before .before .before .before .args .b) (c .before .before .before .before .before .before .args .at) (sym (c .before .before .before .before .before .first-missing .ensures) ∙ c .before .before .before .enum-told .given .1)

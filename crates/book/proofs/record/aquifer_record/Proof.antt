@@ -1,54 +1,40 @@
+-- `book::aquifer_record` meets its contract. Assumes nothing.
 use mathlib.Core.Path.{_∙_}
 use Rattle.laws.proofs.Signs.{whole-ok}
 use borrow.Author.Needs.{needs}
 use Rattle.book.proofs.record.aquifer_record.Statement.{statement}
 use Rattle.book.proofs.record.aquifer_record.Tie as tie
-use Rattle.book.proofs.record.aquifer_record.Reads as reads
-use Rattle.book.proofs.record.aquifer_record.Lts as lts
-use Rattle.book.proofs.bytes.bits32.Reads as bits32-reads
-use Rattle.book.proofs.bytes.signed_bits32.Reads as signed-bits32-reads
 
--- src/record.rt:94:36
 add-signed-bits32 : tie.Need-add-signed-bits32
 add-signed-bits32 c = search needs
 
--- src/record.rt:94:9
 signed-bits32-requires : tie.Need-signed-bits32-requires
 signed-bits32-requires c κs = search needs
 
--- src/record.rt:95:29
 add-bits32 : tie.Need-add-bits32
 add-bits32 c = search needs
 
--- src/record.rt:95:9
 bits32-requires : tie.Need-bits32-requires
 bits32-requires c κs = search needs
 
--- src/record.rt:96:28
 add-bits32-2 : tie.Need-add-bits32-2
 add-bits32-2 c = search needs
 
--- src/record.rt:96:9
 bits32-requires-2 : tie.Need-bits32-requires-2
 bits32-requires-2 c κs = search needs
 
--- src/record.rt:97:31
 add-bits32-3 : tie.Need-add-bits32-3
 add-bits32-3 c = search needs
 
--- src/record.rt:97:9
 bits32-requires-3 : tie.Need-bits32-requires-3
 bits32-requires-3 c κs = search needs
 
--- src/record.rt:98:32
 add-bits32-4 : tie.Need-add-bits32-4
 add-bits32-4 c = search needs
 
--- src/record.rt:98:9
 bits32-requires-4 : tie.Need-bits32-requires-4
 bits32-requires-4 c κs = search needs
 
--- src/record.rt:90:1
 returns : tie.Need-returns
 returns c = λ i.
     record {
@@ -56,7 +42,8 @@ returns c = λ i.
       natural = c .before .before .before .bits32 .ensures i;
       pumped = c .before .before .bits322 .ensures i;
       committed = c .before .bits323 .ensures i;
-      extraction = c .bits324 .ensures i }
+      extraction = c .bits324 .ensures i;
+    }
 
 pub aquifer-record-spec : {M : Type 1} → statement M
 aquifer-record-spec =

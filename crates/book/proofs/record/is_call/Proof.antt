@@ -1,48 +1,36 @@
+-- `book::is_call` meets its contract. Assumes nothing.
 use Rattle.laws.proofs.Chain.{conjunction}
 use borrow.Author.Needs.{needs}
 use Rattle.book.proofs.record.is_call.Statement.{statement}
 use Rattle.book.proofs.record.is_call.Tie as tie
-use Rattle.book.proofs.record.is_call.Reads as reads
-use Rattle.book.proofs.record.is_call.Lts as lts
-use Rattle.book.proofs.record.spells.Reads as spells-reads
 
--- src/record.rt:25:8
 spells-requires : tie.Need-spells-requires
 spells-requires c κs = search needs
 
--- src/record.rt:26:9
 returns : tie.Need-returns
 returns c = search conjunction depth 16
 
--- src/record.rt:28:8
 spells-requires-2 : tie.Need-spells-requires-2
 spells-requires-2 c κs = search needs
 
--- src/record.rt:29:9
 returns-2 : tie.Need-returns-2
 returns-2 c = search conjunction depth 16
 
--- src/record.rt:31:8
 spells-requires-3 : tie.Need-spells-requires-3
 spells-requires-3 c κs = search needs
 
--- src/record.rt:32:9
 returns-3 : tie.Need-returns-3
 returns-3 c = search conjunction depth 16
 
--- src/record.rt:34:8
 spells-requires-4 : tie.Need-spells-requires-4
 spells-requires-4 c κs = search needs
 
--- src/record.rt:35:9
 returns-4 : tie.Need-returns-4
 returns-4 c = search conjunction depth 16
 
--- src/record.rt:37:5
 spells-requires-5 : tie.Need-spells-requires-5
 spells-requires-5 c κs = search needs
 
--- src/record.rt:22:1
 returns-5 : tie.Need-returns-5
 returns-5 c = search conjunction depth 16
 

@@ -1,61 +1,45 @@
+-- `book::mark_of` meets its contract. Assumes nothing.
 use Rattle.laws.proofs.Chain.{chain}
 use borrow.Author.Needs.{needs}
 use Rattle.book.proofs.record.mark_of.Statement.{statement}
 use Rattle.book.proofs.record.mark_of.Tie as tie
-use Rattle.book.proofs.record.mark_of.Reads as reads
-use Rattle.book.proofs.record.mark_of.Lts as lts
-use Rattle.book.proofs.record.is_call.Reads as is-call-reads
-use Rattle.book.proofs.record.spells.Reads as spells-reads
 
--- src/record.rt:44:8
 spells-requires : tie.Need-spells-requires
 spells-requires c κs = search needs
 
--- src/record.rt:45:9
 returns : tie.Need-returns
 returns c = search chain depth 16
 
--- src/record.rt:47:8
 spells-requires-2 : tie.Need-spells-requires-2
 spells-requires-2 c κs = search needs
 
--- src/record.rt:48:9
 returns-2 : tie.Need-returns-2
 returns-2 c = search chain depth 16
 
--- src/record.rt:50:8
 spells-requires-3 : tie.Need-spells-requires-3
 spells-requires-3 c κs = search needs
 
--- src/record.rt:51:9
 returns-3 : tie.Need-returns-3
 returns-3 c = search chain depth 16
 
--- src/record.rt:53:8
 spells-requires-4 : tie.Need-spells-requires-4
 spells-requires-4 c κs = search needs
 
--- src/record.rt:54:9
 returns-4 : tie.Need-returns-4
 returns-4 c = search chain depth 16
 
--- src/record.rt:56:8
 spells-requires-5 : tie.Need-spells-requires-5
 spells-requires-5 c κs = search needs
 
--- src/record.rt:57:9
 returns-5 : tie.Need-returns-5
 returns-5 c = search chain depth 16
 
--- src/record.rt:59:8
 is-call-requires : tie.Need-is-call-requires
 is-call-requires c κs = search needs
 
--- src/record.rt:60:9
 returns-6 : tie.Need-returns-6
 returns-6 c = search chain depth 16
 
--- src/record.rt:41:1
 returns-7 : tie.Need-returns-7
 returns-7 c = search chain depth 16
 

@@ -1,3 +1,4 @@
+-- `book::unit_of` meets its contract. Assumes nothing.
 use mathlib.Core.Path.{_≡_, ap, _∙_}
 use mir.Syntax.{w64}
 use mir.Val.{SFits}
@@ -9,11 +10,7 @@ use Rattle.runoff.proofs.Rounding.{natural-within}
 use Rattle.book.specs.Record.{isGauged}
 use Rattle.book.proofs.record.unit_of.Statement.{statement}
 use Rattle.book.proofs.record.unit_of.Tie as tie
-use Rattle.book.proofs.record.unit_of.Reads as reads
-use Rattle.book.proofs.record.unit_of.Lts as lts
-use Rattle.runoff.proofs.natural_runoff.Reads as natural-runoff-reads
 
--- src/record.rt:154:9
 sum-fits : (c : tie.Start) → SFits w64 (c .args .u .sum)
 sum-fits c =
     parts-fit (c .args .u .sum) (omega (arith, c .pre .sane .gains, c .pre .sane .short)) (omega (arith, c .pre .sane .losses, c .pre .sane .short))
@@ -33,16 +30,16 @@ natural-runoff-requires c κs =
     (record {
       yearsFrom = omega (arith, start .pre .enough);
       yearsTo = start .pre .sane .short;
-      sumTo = omega (arith, start .pre .sane .gains, start .pre .sane .short) })
+      sumTo = omega (arith, start .pre .sane .gains, start .pre .sane .short);
+    })
 
--- src/record.rt:164:17
 cast-t6 : tie.Need-cast-t6
 cast-t6 c =
     let start = c .before .before .before .before in
     record {
-      fits = omega (arith, worked c, natural-within (isGauged (start .args .u)) (start .args .u .years) (start .args .u .sum) (omega (arith, start .pre .enough)) (start .pre .mean)) }
+      fits = omega (arith, worked c, natural-within (isGauged (start .args .u)) (start .args .u .years) (start .args .u .sum) (omega (arith, start .pre .enough)) (start .pre .mean));
+    }
 
--- src/record.rt:147:1
 returns : tie.Need-returns
 returns c =
     rw (whole-ok (c .before .before .before .before .args .u .storage) (c .before .before .before .struct-told .given .1 .1 .1 .1 .1 .1 .1 .0 .1), worked c)

@@ -1,80 +1,59 @@
+-- `book::unit_record` meets its contract. Assumes nothing.
 use mathlib.Core.Path.{_∙_}
 use lib.IntN.{pos}
 use Rattle.laws.proofs.Signs.{whole-ok}
 use borrow.Author.Needs.{needs}
 use Rattle.book.proofs.record.unit_record.Statement.{statement}
 use Rattle.book.proofs.record.unit_record.Tie as tie
-use Rattle.book.proofs.record.unit_record.Reads as reads
-use Rattle.book.proofs.record.unit_record.Lts as lts
-use Rattle.book.proofs.bytes.bits32.Reads as bits32-reads
-use Rattle.book.proofs.bytes.bits8.Reads as bits8-reads
-use Rattle.book.proofs.bytes.signed_bits32.Reads as signed-bits32-reads
 
--- src/record.rt:63:31
 add-bits8 : tie.Need-add-bits8
 add-bits8 c = search needs
 
--- src/record.rt:63:9
 bits8-requires : tie.Need-bits8-requires
 bits8-requires c κs = search needs
 
--- src/record.rt:64:32
 add-bits32 : tie.Need-add-bits32
 add-bits32 c = search needs
 
--- src/record.rt:64:9
 bits32-requires : tie.Need-bits32-requires
 bits32-requires c κs = search needs
 
--- src/record.rt:65:29
 add-bits32-2 : tie.Need-add-bits32-2
 add-bits32-2 c = search needs
 
--- src/record.rt:65:9
 bits32-requires-2 : tie.Need-bits32-requires-2
 bits32-requires-2 c κs = search needs
 
--- src/record.rt:66:29
 add-bits32-3 : tie.Need-add-bits32-3
 add-bits32-3 c = search needs
 
--- src/record.rt:66:9
 bits32-requires-3 : tie.Need-bits32-requires-3
 bits32-requires-3 c κs = search needs
 
--- src/record.rt:67:29
 add-bits32-4 : tie.Need-add-bits32-4
 add-bits32-4 c = search needs
 
--- src/record.rt:67:9
 bits32-requires-4 : tie.Need-bits32-requires-4
 bits32-requires-4 c κs = search needs
 
--- src/record.rt:68:33
 add-bits32-5 : tie.Need-add-bits32-5
 add-bits32-5 c = search needs
 
--- src/record.rt:68:9
 bits32-requires-5 : tie.Need-bits32-requires-5
 bits32-requires-5 c κs = search needs
 
--- src/record.rt:69:36
 add-signed-bits32 : tie.Need-add-signed-bits32
 add-signed-bits32 c = search needs
 
--- src/record.rt:69:9
 signed-bits32-requires : tie.Need-signed-bits32-requires
 signed-bits32-requires c κs = search needs
 
--- src/record.rt:70:32
 add-bits32-6 : tie.Need-add-bits32-6
 add-bits32-6 c = search needs
 
--- src/record.rt:70:9
 bits32-requires-6 : tie.Need-bits32-requires-6
 bits32-requires-6 c κs = search needs
 
--- src/record.rt:59:1
 returns : tie.Need-returns
 returns c = λ i.
     record {
@@ -91,7 +70,8 @@ returns c = λ i.
       hectares = 0;
       weighted = 0;
       years = 0;
-      sum = pos 0 }
+      sum = pos 0;
+    }
 
 pub unit-record-spec : {M : Type 1} → statement M
 unit-record-spec =

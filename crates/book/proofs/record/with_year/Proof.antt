@@ -1,4 +1,4 @@
-use mathlib.Core.Path.{_≡_}
+-- `book::with_year` meets its contract. Assumes nothing.
 use mir.Syntax.{w64}
 use mir.Val.{SFits}
 use native.Mathlib.Omega.{arith}
@@ -7,11 +7,7 @@ use Rattle.laws.proofs.Parts.{parts-fit}
 use borrow.Author.Needs.{needs}
 use Rattle.book.proofs.record.with_year.Statement.{statement}
 use Rattle.book.proofs.record.with_year.Tie as tie
-use Rattle.book.proofs.record.with_year.Reads as reads
-use Rattle.book.proofs.record.with_year.Lts as lts
-use Rattle.laws.proofs.plus.Reads as plus-reads
 
--- src/record.rt:139:9
 sum-fits : (c : tie.Start) → SFits w64 (c .args .u .sum)
 sum-fits c =
     parts-fit (c .args .u .sum) (omega (arith, c .pre .0 .gains, c .pre .0 .short)) (omega (arith, c .pre .0 .losses, c .pre .0 .short))
@@ -24,18 +20,21 @@ plus-requires c κs =
       above-left = omega (arith, start .pre .0 .gains, start .pre .0 .short);
       below-left = omega (arith, start .pre .0 .losses, start .pre .0 .short);
       above-right = omega (arith, start .pre .1 .gain);
-      below-right = omega (arith, start .pre .1 .loss) })
+      below-right = omega (arith, start .pre .1 .loss);
+    })
 
--- src/record.rt:141:18
 add-next : tie.Need-add-next
 add-next c = search needs
 
--- src/record.rt:133:1
 returns : tie.Need-returns
 returns c =
     let start = c .before .before .before in
-    rw (whole-ok (c .before .plus .result) (c .before .plus .ok), c .before .plus .ensures, whole (start .args .u .sum) (sum-fits start),
-      whole (start .args .year) (start .fits .year))
+    rw (
+      whole-ok (c .before .plus .result) (c .before .plus .ok),
+      c .before .plus .ensures,
+      whole (start .args .u .sum) (sum-fits start),
+      whole (start .args .year) (start .fits .year),
+    )
 
 pub with-year-spec : {M : Type 1} → statement M
 with-year-spec = tie.close (tie.spec plus-requires add-next returns)

@@ -1,44 +1,32 @@
-use Prim.Native.Nat.{_+_, _≤_}
-use mathlib.Core.Path.{_≡_, refl, sym, ap, _∙_}
+-- `book::gauge_step` meets its contract. Assumes nothing.
+use Prim.Native.Nat.{_+_}
+use mathlib.Core.Path.{_≡_, sym, ap, _∙_}
 use mathlib.Core.Bool.{false}
-use lib.IntN.{pos, _-ℤ_}
-use lib.ListN.{length}
 use native.Mathlib.Omega.{arith}
 use Rattle.laws.proofs.Signs.{whole-ok}
 use Rattle.book.specs.declared.Next.the-variants.{Grows}
-use Rattle.book.specs.Bytes.{bits16}
 use Rattle.book.specs.Fault as faults
-use Rattle.book.specs.Record.{withYear, rainOf, gaugeOf}
+use Rattle.book.specs.Record.{withYear}
 use Rattle.book.specs.Reading.{gaugeOutsideAt}
 use Rattle.book.proofs.Steps.{is-short, is-whole, is-faulty, is-clean}
-use Rattle.book.proofs.Faults.{gauge-clean, range-at, rain-clean, RainClean}
+use Rattle.book.proofs.Faults.{gauge-clean, range-at}
 use borrow.Author.Needs.{needs}
 use Rattle.book.proofs.step.gauge_step.Statement.{statement}
 use Rattle.book.proofs.step.gauge_step.Tie as tie
-use Rattle.book.proofs.step.gauge_step.Reads as reads
 use Rattle.book.proofs.step.gauge_step.Lts as lts
-use Rattle.book.proofs.fault.gauge_fault.Reads as gauge-fault-reads
-use Rattle.book.proofs.record.with_year.Reads as with-year-reads
-use Rattle.book.proofs.step.outside_at.Reads as outside-at-reads
-use Rattle.book.proofs.step.year_at.Reads as year-at-reads
 
--- src/step.rt:137:8
 sub-if1 : tie.Need-sub-if1
 sub-if1 c = search needs
 
--- src/step.rt:138:9
 returns : tie.Need-returns
 returns c = is-short (c .before .before .args .s .now) (c .before .before .args .at) 34 _ (c .if1 .taken)
 
--- src/step.rt:143:49
 outside-at-requires : tie.Need-outside-at-requires
 outside-at-requires c κs = search needs
 
--- src/step.rt:143:9
 gauge-fault-requires : tie.Need-gauge-fault-requires
 gauge-fault-requires c κs = search needs
 
--- src/step.rt:145:9
 fault-is : (c : tie.After-gauge-fault)
     → c .gauge-fault .result
     ≡ faults.gaugeFault (c .before .before .before .before .args .units) (c .before .before .before .before .args .aquifers) (c .before .before .before .before .args .u) (gaugeOutsideAt (c .before .before .before .before .args .s .now) (c .before .before .before .before .args .at))
@@ -55,21 +43,18 @@ returns-2 c =
     is-whole (start .args .s .now) (start .args .at) 34 _ _ (c .before .before .before .if1 .left)
     (is-faulty (c .before .gauge-fault .result) _ _ _ (fault-is (c .before)) (c .if2 .taken))
 
--- src/step.rt:151:28
 year-at-requires : tie.Need-year-at-requires
 year-at-requires c κs = (omega (arith, c .before .before .before .if1 .left, c .before .before .before .before .before .pre .0), inside c)
 
--- src/step.rt:151:15
 with-year-requires : tie.Need-with-year-requires
-with-year-requires c κs =
-    (c .before .before .before .before .before .before .pre .1,
-      rw (whole-ok (c .year-at .result) (c .year-at .ok), c .year-at .ensures) (range-at (c .before .before .before .before .before .before .args .s .now) (c .before .before .before .before .before .before .args .at) (inside (c .before))))
+with-year-requires c κs = (
+  c .before .before .before .before .before .before .pre .1,
+  rw (whole-ok (c .year-at .result) (c .year-at .ok), c .year-at .ensures) (range-at (c .before .before .before .before .before .before .args .s .now) (c .before .before .before .before .before .before .args .at) (inside (c .before))),
+)
 
--- src/step.rt:152:13
 add-t7 : tie.Need-add-t7
 add-t7 c = search needs
 
--- src/step.rt:132:1
 returns-3 : tie.Need-returns-3
 returns-3 c =
     let start = c .before .before .before .before .before .before .before in

@@ -1,137 +1,104 @@
-use mathlib.Core.Path.{_≡_, refl, sym, _∙_}
+-- `book::next` meets its contract. Assumes nothing.
+use mathlib.Core.Path.{refl, sym, _∙_}
 use Rattle.book.specs.declared.Mark.the-variants.{Un, Su, Pr, Af, Ac, Call, Unknown}
 use Rattle.book.proofs.Steps.{next-ends, next-lone, next-marked}
 use borrow.Author.Needs.{needs}
 use Rattle.book.proofs.step.next.Statement.{statement}
 use Rattle.book.proofs.step.next.Tie as tie
-use Rattle.book.proofs.step.next.Reads as reads
-use Rattle.book.proofs.step.next.Lts as lts
-use Rattle.book.proofs.record.mark_of.Reads as mark-of-reads
-use Rattle.book.proofs.step.aquifer_step.Reads as aquifer-step-reads
-use Rattle.book.proofs.step.gauge_step.Reads as gauge-step-reads
-use Rattle.book.proofs.step.rain_step.Reads as rain-step-reads
-use Rattle.book.proofs.step.soil_step.Reads as soil-step-reads
-use Rattle.book.proofs.step.unit_step.Reads as unit-step-reads
 
--- src/step.rt:196:16
 sub-left : tie.Need-sub-left
 sub-left c = search needs
 
--- src/step.rt:198:9
 returns : tie.Need-returns
 returns c = next-ends _ _ _ _ _ (c .if1 .taken)
 
--- src/step.rt:201:9
 returns-2 : tie.Need-returns-2
 returns-2 c = next-lone _ _ _ _ _ (c .before .if1 .left) (c .if2 .taken)
 
--- src/step.rt:206:24
 shared-slice-read-mark-of : tie.Need-shared-slice-read-mark-of
 shared-slice-read-mark-of c = search needs
 
--- src/step.rt:206:33
 add-mark-of : tie.Need-add-mark-of
 add-mark-of c = search needs
 
--- src/step.rt:206:31
 shared-slice-read-mark-of-2 : tie.Need-shared-slice-read-mark-of-2
 shared-slice-read-mark-of-2 c = search needs
 
--- src/step.rt:206:9
 mark-of-requires : tie.Need-mark-of-requires
 mark-of-requires c κs = search needs
 
--- src/step.rt:208:21
 enum-told : tie.Need-enum-told
 enum-told c = search needs
 
--- src/step.rt:208:21
 unit-step-requires : tie.Need-unit-step-requires
 unit-step-requires c κs = search needs
 
--- src/step.rt:209:21
 enum-told-2 : tie.Need-enum-told-2
 enum-told-2 c = search needs
 
--- src/step.rt:209:21
 soil-step-requires : tie.Need-soil-step-requires
 soil-step-requires c κs = search needs
 
--- src/step.rt:210:21
 enum-told-3 : tie.Need-enum-told-3
 enum-told-3 c = search needs
 
--- src/step.rt:210:21
 rain-step-requires : tie.Need-rain-step-requires
 rain-step-requires c κs = search needs
 
--- src/step.rt:211:21
 enum-told-4 : tie.Need-enum-told-4
 enum-told-4 c = search needs
 
--- src/step.rt:211:21
 gauge-step-requires : tie.Need-gauge-step-requires
 gauge-step-requires c κs = search needs
 
--- src/step.rt:212:21
 enum-told-5 : tie.Need-enum-told-5
 enum-told-5 c = search needs
 
--- src/step.rt:212:21
 aquifer-step-requires : tie.Need-aquifer-step-requires
 aquifer-step-requires c κs = search needs
 
--- src/step.rt:213:23
 enum-told-6 : tie.Need-enum-told-6
 enum-told-6 c = search needs
 
--- src/step.rt:214:26
 enum-told-7 : tie.Need-enum-told-7
 enum-told-7 c = search needs
 
--- src/step.rt:191:1
 returns-3 : tie.Need-returns-3
 returns-3 c =
     let start = c .before .before .before .before .before .before .before .before .before in
     next-marked (start .args .s .now) (start .args .at) (start .args .u) (start .args .units) (start .args .aquifers) Un _
     (c .before .before .before .before .before .before .before .if1 .left) (c .before .before .before .before .before .before .if2 .left) (sym (c .before .enum-told .given .1) ∙ c .before .before .before .mark-of .ensures) (c .unit-step .ensures)
 
--- src/step.rt:191:1
 returns-4 : tie.Need-returns-4
 returns-4 c =
     let start = c .before .before .before .before .before .before .before .before .before in
     next-marked (start .args .s .now) (start .args .at) (start .args .u) (start .args .units) (start .args .aquifers) Su _
     (c .before .before .before .before .before .before .before .if1 .left) (c .before .before .before .before .before .before .if2 .left) (sym (c .before .enum-told2 .given .1) ∙ c .before .before .before .mark-of .ensures) (c .soil-step .ensures)
 
--- src/step.rt:191:1
 returns-5 : tie.Need-returns-5
 returns-5 c =
     let start = c .before .before .before .before .before .before .before .before .before in
     next-marked (start .args .s .now) (start .args .at) (start .args .u) (start .args .units) (start .args .aquifers) Pr _
     (c .before .before .before .before .before .before .before .if1 .left) (c .before .before .before .before .before .before .if2 .left) (sym (c .before .enum-told3 .given .1) ∙ c .before .before .before .mark-of .ensures) (c .rain-step .ensures)
 
--- src/step.rt:191:1
 returns-6 : tie.Need-returns-6
 returns-6 c =
     let start = c .before .before .before .before .before .before .before .before .before in
     next-marked (start .args .s .now) (start .args .at) (start .args .u) (start .args .units) (start .args .aquifers) Af _
     (c .before .before .before .before .before .before .before .if1 .left) (c .before .before .before .before .before .before .if2 .left) (sym (c .before .enum-told4 .given .1) ∙ c .before .before .before .mark-of .ensures) (c .gauge-step .ensures)
 
--- src/step.rt:191:1
 returns-7 : tie.Need-returns-7
 returns-7 c =
     let start = c .before .before .before .before .before .before .before .before .before in
     next-marked (start .args .s .now) (start .args .at) (start .args .u) (start .args .units) (start .args .aquifers) Ac _
     (c .before .before .before .before .before .before .before .if1 .left) (c .before .before .before .before .before .before .if2 .left) (sym (c .before .enum-told5 .given .1) ∙ c .before .before .before .mark-of .ensures) (c .aquifer-step .ensures)
 
--- src/step.rt:191:1
 returns-8 : tie.Need-returns-8
 returns-8 c =
     let start = c .before .before .before .before .before .before .before .before in
     next-marked (start .args .s .now) (start .args .at) (start .args .u) (start .args .units) (start .args .aquifers) Call _
     (c .before .before .before .before .before .before .if1 .left) (c .before .before .before .before .before .if2 .left) (sym (c .enum-told6 .given .1) ∙ c .before .before .mark-of .ensures) refl
 
--- src/step.rt:191:1
 returns-9 : tie.Need-returns-9
 returns-9 c =
     let start = c .before .before .before .before .before .before .before .before in

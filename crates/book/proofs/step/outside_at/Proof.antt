@@ -1,105 +1,73 @@
-use Prim.Native.Nat.{_+_, _≤_}
-use mathlib.Core.Path.{_≡_, refl, sym, ap, _∙_}
-use mathlib.Core.Bool.{false}
-use lib.IntN.{pos, _-ℤ_}
-use lib.ListN.{length}
-use native.Mathlib.Omega.{arith}
+-- `book::outside_at` meets its contract. Assumes nothing.
+use Prim.Native.Nat.{_+_}
+use mathlib.Core.Path.{_≡_, _∙_}
 use Rattle.laws.proofs.Signs.{whole-ok}
-use Rattle.book.specs.declared.Next.the-variants.{Grows}
 use Rattle.book.specs.Bytes.{bits32}
 use Rattle.book.specs.Fault as faults
-use Rattle.book.specs.Record.{withYear, rainOf, gaugeOf}
-use Rattle.book.specs.Reading.{gaugeOutsideAt}
-use Rattle.book.proofs.Steps.{is-short, is-whole, is-faulty, is-clean}
-use Rattle.book.proofs.Faults.{gauge-clean, gauge-range, gauge-inside, rain-clean, RainClean}
 use borrow.Author.Needs.{needs}
 use Rattle.book.proofs.step.outside_at.Statement.{statement}
 use Rattle.book.proofs.step.outside_at.Tie as tie
-use Rattle.book.proofs.step.outside_at.Reads as reads
 use Rattle.book.proofs.step.outside_at.Lts as lts
-use Rattle.book.proofs.bytes.bits32.Reads as bits32-reads
-use Rattle.book.proofs.bytes.signed_bits32.Reads as signed-bits32-reads
-use Rattle.book.proofs.fault.gauge_outside.Reads as gauge-outside-reads
-use Rattle.book.proofs.fault.terms_outside.Reads as terms-outside-reads
 
--- src/step.rt:105:32
 add-bits32 : tie.Need-add-bits32
 add-bits32 c = search needs
 
--- src/step.rt:105:9
 bits32-requires : tie.Need-bits32-requires
 bits32-requires c κs = search needs
 
--- src/step.rt:106:29
 add-bits32-2 : tie.Need-add-bits32-2
 add-bits32-2 c = search needs
 
--- src/step.rt:106:9
 bits32-requires-2 : tie.Need-bits32-requires-2
 bits32-requires-2 c κs = search needs
 
--- src/step.rt:107:29
 add-bits32-3 : tie.Need-add-bits32-3
 add-bits32-3 c = search needs
 
--- src/step.rt:107:9
 bits32-requires-3 : tie.Need-bits32-requires-3
 bits32-requires-3 c κs = search needs
 
--- src/step.rt:108:29
 add-bits32-4 : tie.Need-add-bits32-4
 add-bits32-4 c = search needs
 
--- src/step.rt:108:9
 bits32-requires-4 : tie.Need-bits32-requires-4
 bits32-requires-4 c κs = search needs
 
--- src/step.rt:109:33
 add-bits32-5 : tie.Need-add-bits32-5
 add-bits32-5 c = search needs
 
--- src/step.rt:109:9
 bits32-requires-5 : tie.Need-bits32-requires-5
 bits32-requires-5 c κs = search needs
 
--- src/step.rt:110:9
 terms-outside-requires : tie.Need-terms-outside-requires
 terms-outside-requires c κs = search needs
 
--- src/step.rt:111:29
 add-bits32-6 : tie.Need-add-bits32-6
 add-bits32-6 c = search needs
 
--- src/step.rt:111:19
 bits32-requires-6 : tie.Need-bits32-requires-6
 bits32-requires-6 c κs = search needs
 
--- src/step.rt:111:48
 add-bits32-7 : tie.Need-add-bits32-7
 add-bits32-7 c = search needs
 
--- src/step.rt:111:38
 bits32-requires-7 : tie.Need-bits32-requires-7
 bits32-requires-7 c κs = search needs
 
--- src/step.rt:111:81
 add-signed-bits32 : tie.Need-add-signed-bits32
 add-signed-bits32 c = search needs
 
--- src/step.rt:111:64
 signed-bits32-requires : tie.Need-signed-bits32-requires
 signed-bits32-requires c κs = search needs
 
--- src/step.rt:111:5
 gauge-outside-requires : tie.Need-gauge-outside-requires
 gauge-outside-requires c κs = search needs
 
--- src/step.rt:101:1
 terms-are : (c : tie.After-terms-outside)
     → c .terms-outside .result
     ≡ faults.termsOutside (bits32 (c .before .before .before .before .before .before .before .args .s .now) (c .before .before .before .before .before .before .before .args .at + 10)) (bits32 (c .before .before .before .before .before .before .before .args .s .now) (c .before .before .before .before .before .before .before .args .at + 14))
-      (bits32 (c .before .before .before .before .before .before .before .args .s .now) (c .before .before .before .before .before .before .before .args .at + 18)) (bits32 (c .before .before .before .before .before .before .before .args .s .now) (c .before .before .before .before .before .before .before .args .at + 22))
-      (bits32 (c .before .before .before .before .before .before .before .args .s .now) (c .before .before .before .before .before .before .before .args .at + 26))
+    (bits32 (c .before .before .before .before .before .before .before .args .s .now) (c .before .before .before .before .before .before .before .args .at + 18)) (bits32 (c .before .before .before .before .before .before .before .args .s .now) (c .before .before .before .before .before .before .before .args .at + 22))
+    (bits32 (c .before .before .before .before .before .before .before .args .s .now) (c .before .before .before .before .before .before .before .args .at + 26))
 terms-are c =
     c .terms-outside .ensures
     ∙ (λ i. faults.termsOutside (c .before .before .before .before .before .bits32 .ensures i) (c .before .before .before .before .bits322 .ensures i) (c .before .before .before .bits323 .ensures i) (c .before .before .bits324 .ensures i) (c .before .bits325 .ensures i))
@@ -108,8 +76,8 @@ returns : tie.Need-returns
 returns c =
     c .gauge-outside .ensures
     ∙ (λ i.
-      faults.gaugeOutsideBy (c .before .before .before .bits326 .ensures i) (c .before .before .bits327 .ensures i) (terms-are (c .before .before .before .before) i)
-      ((whole-ok (c .before .signed-bits32 .result) (c .before .signed-bits32 .ok) ∙ c .before .signed-bits32 .ensures) i))
+    faults.gaugeOutsideBy (c .before .before .before .bits326 .ensures i) (c .before .before .bits327 .ensures i) (terms-are (c .before .before .before .before) i)
+    ((whole-ok (c .before .signed-bits32 .result) (c .before .signed-bits32 .ok) ∙ c .before .signed-bits32 .ensures) i))
 
 pub outside-at-spec : {M : Type 1} → statement M
 outside-at-spec =

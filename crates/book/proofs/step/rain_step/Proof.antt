@@ -1,54 +1,40 @@
+-- `book::rain_step` meets its contract. Assumes nothing.
 use mir.Syntax.{w64}
 use mir.Val.{toZ, ofZ}
 use Rattle.runoff.specs.Year.{RainRange}
-use Prim.Native.Nat.{_+_, _≤_}
-use mathlib.Core.Path.{_≡_, refl, sym, ap, _∙_}
-use mathlib.Core.Bool.{false}
-use lib.IntN.{pos, _-ℤ_}
-use lib.ListN.{length}
+use Prim.Native.Nat.{_+_}
+use mathlib.Core.Path.{_≡_, sym, ap, _∙_}
+use lib.IntN.{pos}
 use native.Mathlib.Omega.{arith}
 use Rattle.laws.proofs.Signs.{whole-ok}
 use Rattle.book.specs.declared.Next.the-variants.{Grows}
 use Rattle.book.specs.Bytes.{bits16}
 use Rattle.book.specs.Fault as faults
-use Rattle.book.specs.Record.{withYear, rainOf, gaugeOf}
-use Rattle.book.specs.Reading.{gaugeOutsideAt}
+use Rattle.book.specs.Record.{withYear, rainOf}
 use Rattle.book.proofs.Steps.{is-short, is-whole, is-faulty, is-clean}
-use Rattle.book.proofs.Faults.{gauge-clean, gauge-range, gauge-inside, rain-clean, RainClean}
+use Rattle.book.proofs.Faults.{rain-clean}
 use Rattle.runoff.specs.Year.{rainYear}
 use Rattle.runoff.proofs.Rain.{rain-within}
 use borrow.Author.Needs.{needs}
 use Rattle.book.proofs.step.rain_step.Statement.{statement}
 use Rattle.book.proofs.step.rain_step.Tie as tie
-use Rattle.book.proofs.step.rain_step.Reads as reads
 use Rattle.book.proofs.step.rain_step.Lts as lts
-use Rattle.book.proofs.bytes.bits16.Reads as bits16-reads
-use Rattle.book.proofs.fault.rain_fault.Reads as rain-fault-reads
-use Rattle.book.proofs.record.with_year.Reads as with-year-reads
-use Rattle.laws.proofs.difference.Reads as difference-reads
-use Rattle.runoff.proofs.rain_year.Reads as rain-year-reads
 
--- src/step.rt:79:8
 sub-if1 : tie.Need-sub-if1
 sub-if1 c = search needs
 
--- src/step.rt:80:9
 returns : tie.Need-returns
 returns c = is-short (c .before .before .args .s .now) (c .before .before .args .at) 4 _ (c .if1 .taken)
 
--- src/step.rt:85:24
 add-bits16 : tie.Need-add-bits16
 add-bits16 c = search needs
 
--- src/step.rt:85:9
 bits16-requires : tie.Need-bits16-requires
 bits16-requires c κs = search needs
 
--- src/step.rt:86:9
 rain-fault-requires : tie.Need-rain-fault-requires
 rain-fault-requires c κs = search needs
 
--- src/step.rt:88:9
 fault-is : (c : tie.After-rain-fault)
     → c .rain-fault .result ≡ faults.rainFault (c .before .before .before .before .args .units) (c .before .before .before .before .args .aquifers) (c .before .before .before .before .args .u) (bits16 (c .before .before .before .before .args .s .now) (c .before .before .before .before .args .at + 2))
 fault-is c =
@@ -61,7 +47,8 @@ in-range c =
     record {
       areaTo = start .pre .1 .area;
       weightedTo = start .pre .1 .weight;
-      rainTo = rain-clean (start .args .units) (start .args .aquifers) (start .args .u) (bits16 (start .args .s .now) (start .args .at + 2)) (sym (fault-is (c .before)) ∙ c .if2 .left) .most }
+      rainTo = rain-clean (start .args .units) (start .args .aquifers) (start .args .u) (bits16 (start .args .s .now) (start .args .at + 2)) (sym (fault-is (c .before)) ∙ c .if2 .left) .most;
+    }
 
 year-is : (c : tie.After-rain-year)
     → c .rain-year .result ≡ rainYear (c .before .before .before .before .before .before .args .u .hectares) (c .before .before .before .before .before .before .args .u .weighted) (bits16 (c .before .before .before .before .before .before .args .s .now) (c .before .before .before .before .before .before .args .at + 2))
@@ -80,34 +67,29 @@ returns-2 c =
     is-whole (start .args .s .now) (start .args .at) 4 _ _ (c .before .before .before .if1 .left)
     (is-faulty (c .before .rain-fault .result) _ _ _ (fault-is (c .before)) (c .if2 .taken))
 
--- src/step.rt:93:58
 cast-rain-year : tie.Need-cast-rain-year
 cast-rain-year c = search needs
 
--- src/step.rt:93:9
 rain-year-requires : tie.Need-rain-year-requires
 rain-year-requires c κs =
     let start = c .before .before .before .before .before in
     rw (c .before .before .bits16 .ensures .value) (in-range c)
 
--- src/step.rt:95:28
 difference-requires : tie.Need-difference-requires
 difference-requires c κs =
     let start = c .before .before .before .before .before .before in
     rw (year-is c) (omega (arith, rain-within _ _ _ (in-range (c .before))), omega arith)
 
--- src/step.rt:95:15
 with-year-requires : tie.Need-with-year-requires
 with-year-requires c κs =
-    let start = c .before .before .before .before .before .before .before in
-    (start .pre .1,
-      rw (sum-is c) (record { gain = omega (arith, rain-within _ _ _ (in-range (c .before .before))); loss = omega arith }))
+    let start = c .before .before .before .before .before .before .before in (
+      start .pre .1,
+      rw (sum-is c) (record { gain = omega (arith, rain-within _ _ _ (in-range (c .before .before))); loss = omega arith }),
+    )
 
--- src/step.rt:96:13
 add-t9 : tie.Need-add-t9
 add-t9 c = search needs
 
--- src/step.rt:74:1
 returns-3 : tie.Need-returns-3
 returns-3 c =
     let start = c .before .before .before .before .before .before .before .before in

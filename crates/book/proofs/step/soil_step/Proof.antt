@@ -1,10 +1,8 @@
+-- `book::soil_step` meets its contract. Assumes nothing.
 use Prim.Native.Nat.{_+_}
-use mathlib.Core.Path.{_≡_, refl, sym, ap, _∙_}
-use native.Mathlib.Omega.{arith}
-use Rattle.laws.proofs.Signs.{whole as whole-bits, whole-ok}
-use Rattle.laws.proofs.Parts.{parts-fit}
-use Rattle.book.specs.declared.Next.the-variants.{Opens, Grows, Adds}
-use Rattle.book.specs.Bytes.{bits8, bits16, bits32, signedBits32}
+use mathlib.Core.Path.{_≡_, sym, _∙_}
+use Rattle.book.specs.declared.Next.the-variants.{Grows}
+use Rattle.book.specs.Bytes.{bits8, bits32}
 use Rattle.book.specs.Fault as faults
 use Rattle.book.proofs.Steps.{is-short, is-whole, is-faulty, is-clean}
 use Rattle.book.proofs.Faults.{SoilClean, soil-clean}
@@ -12,55 +10,40 @@ use Rattle.book.specs.Record.{withSoil}
 use borrow.Author.Needs.{needs}
 use Rattle.book.proofs.step.soil_step.Statement.{statement}
 use Rattle.book.proofs.step.soil_step.Tie as tie
-use Rattle.book.proofs.step.soil_step.Reads as reads
 use Rattle.book.proofs.step.soil_step.Lts as lts
-use Rattle.book.proofs.bytes.bits32.Reads as bits32-reads
-use Rattle.book.proofs.bytes.bits8.Reads as bits8-reads
-use Rattle.book.proofs.fault.soil_fault.Reads as soil-fault-reads
-use Rattle.book.proofs.record.with_soil.Reads as with-soil-reads
 
--- src/step.rt:51:8
 sub-if1 : tie.Need-sub-if1
 sub-if1 c = search needs
 
--- src/step.rt:52:9
 returns : tie.Need-returns
 returns c = is-short (c .before .before .args .s .now) (c .before .before .args .at) 8 _ (c .if1 .taken)
 
--- src/step.rt:57:26
 add-bits8 : tie.Need-add-bits8
 add-bits8 c = search needs
 
--- src/step.rt:57:9
 bits8-requires : tie.Need-bits8-requires
 bits8-requires c κs = search needs
 
--- src/step.rt:58:25
 add-bits8-2 : tie.Need-add-bits8-2
 add-bits8-2 c = search needs
 
--- src/step.rt:58:9
 bits8-requires-2 : tie.Need-bits8-requires-2
 bits8-requires-2 c κs = search needs
 
--- src/step.rt:59:30
 add-bits32 : tie.Need-add-bits32
 add-bits32 c = search needs
 
--- src/step.rt:59:9
 bits32-requires : tie.Need-bits32-requires
 bits32-requires c κs = search needs
 
--- src/step.rt:60:9
 soil-fault-requires : tie.Need-soil-fault-requires
 soil-fault-requires c κs = search needs
 
--- src/step.rt:62:9
 fault-is : (c : tie.After-soil-fault)
     → c .soil-fault .result
     ≡ faults.soilFault (c .before .before .before .before .before .before .args .units) (c .before .before .before .before .before .before .args .aquifers) (c .before .before .before .before .before .before .args .u)
-      (bits8 (c .before .before .before .before .before .before .args .s .now) (c .before .before .before .before .before .before .args .at + 2)) (bits8 (c .before .before .before .before .before .before .args .s .now) (c .before .before .before .before .before .before .args .at + 3))
-      (bits32 (c .before .before .before .before .before .before .args .s .now) (c .before .before .before .before .before .before .args .at + 4))
+    (bits8 (c .before .before .before .before .before .before .args .s .now) (c .before .before .before .before .before .before .args .at + 2)) (bits8 (c .before .before .before .before .before .before .args .s .now) (c .before .before .before .before .before .before .args .at + 3))
+    (bits32 (c .before .before .before .before .before .before .args .s .now) (c .before .before .before .before .before .before .args .at + 4))
 fault-is c =
     let start = c .before .before .before .before .before .before in
     c .soil-fault .ensures
@@ -68,8 +51,8 @@ fault-is c =
 
 clean : (c : tie.Else2)
     → SoilClean (c .before .before .before .before .before .before .before .args .units) (c .before .before .before .before .before .before .before .args .aquifers) (c .before .before .before .before .before .before .before .args .u)
-      (bits8 (c .before .before .before .before .before .before .before .args .s .now) (c .before .before .before .before .before .before .before .args .at + 2)) (bits8 (c .before .before .before .before .before .before .before .args .s .now) (c .before .before .before .before .before .before .before .args .at + 3))
-      (bits32 (c .before .before .before .before .before .before .before .args .s .now) (c .before .before .before .before .before .before .before .args .at + 4))
+    (bits8 (c .before .before .before .before .before .before .before .args .s .now) (c .before .before .before .before .before .before .before .args .at + 2)) (bits8 (c .before .before .before .before .before .before .before .args .s .now) (c .before .before .before .before .before .before .before .args .at + 3))
+    (bits32 (c .before .before .before .before .before .before .before .args .s .now) (c .before .before .before .before .before .before .before .args .at + 4))
 clean c = soil-clean _ _ _ _ _ _ (sym (fault-is (c .before)) ∙ c .if2 .left)
 
 returns-2 : tie.Need-returns-2
@@ -78,16 +61,13 @@ returns-2 c =
     is-whole (start .args .s .now) (start .args .at) 8 _ _ (c .before .before .before .before .before .if1 .left)
     (is-faulty (c .before .soil-fault .result) _ _ _ (fault-is (c .before)) (c .if2 .taken))
 
--- src/step.rt:68:15
 with-soil-requires : tie.Need-with-soil-requires
 with-soil-requires c κs =
     (c .before .before .before .before .before .before .before .pre .1, rw (c .before .before .before .before .bits8 .ensures, c .before .before .before .bits82 .ensures) (clean c .known))
 
--- src/step.rt:69:13
 add-t10 : tie.Need-add-t10
 add-t10 c = search needs
 
--- src/step.rt:46:1
 returns-3 : tie.Need-returns-3
 returns-3 c =
     let start = c .before .before .before .before .before .before .before .before in

@@ -1,34 +1,26 @@
+-- `book::unit_step` meets its contract. Assumes nothing.
 use Prim.Native.Nat.{_+_}
-use mathlib.Core.Path.{_≡_, refl, sym, ap, _∙_}
+use mathlib.Core.Path.{_≡_, ap, _∙_}
 use native.Mathlib.Omega.{arith}
-use Rattle.laws.proofs.Signs.{whole as whole-bits, whole-ok}
+use Rattle.laws.proofs.Signs.{whole as whole-bits}
 use Rattle.laws.proofs.Parts.{parts-fit}
-use Rattle.book.specs.declared.Next.the-variants.{Opens, Grows, Adds}
-use Rattle.book.specs.Bytes.{bits8, bits16, bits32, signedBits32}
+use Rattle.book.specs.declared.Next.the-variants.{Opens}
 use Rattle.book.specs.Fault as faults
 use Rattle.book.proofs.Steps.{is-short, is-whole, is-faulty, is-clean}
 use borrow.Author.Needs.{needs}
 use Rattle.book.proofs.step.unit_step.Statement.{statement}
 use Rattle.book.proofs.step.unit_step.Tie as tie
-use Rattle.book.proofs.step.unit_step.Reads as reads
 use Rattle.book.proofs.step.unit_step.Lts as lts
-use Rattle.book.proofs.fault.closing_fault.Reads as closing-fault-reads
-use Rattle.book.proofs.fault.unit_fault.Reads as unit-fault-reads
-use Rattle.book.proofs.record.unit_record.Reads as unit-record-reads
 
--- src/step.rt:20:8
 sub-if1 : tie.Need-sub-if1
 sub-if1 c = search needs
 
--- src/step.rt:21:9
 returns : tie.Need-returns
 returns c = is-short (c .before .before .args .s .now) (c .before .before .args .at) 31 _ (c .if1 .taken)
 
--- src/step.rt:27:9
 closing-fault-requires : tie.Need-closing-fault-requires
 closing-fault-requires c κs = search needs
 
--- src/step.rt:29:9
 closing-is : (c : tie.After-closing-fault)
     → c .closing-fault .result ≡ faults.closingFault (c .before .before .before .before .args .units) (c .before .before .before .before .args .u)
 closing-is c =
@@ -36,7 +28,7 @@ closing-is c =
     let u = start .args .u in
     c .closing-fault .ensures
     ∙ ap (faults.closingBy (start .args .units) (u .soils) (u .years))
-      (whole-bits (u .sum) (parts-fit (u .sum) (omega (arith, start .pre .1 .gains, start .pre .1 .short)) (omega (arith, start .pre .1 .losses, start .pre .1 .short))))
+    (whole-bits (u .sum) (parts-fit (u .sum) (omega (arith, start .pre .1 .gains, start .pre .1 .short)) (omega (arith, start .pre .1 .losses, start .pre .1 .short))))
 
 returns-2 : tie.Need-returns-2
 returns-2 c =
@@ -44,15 +36,12 @@ returns-2 c =
     is-whole (start .args .s .now) (start .args .at) 31 _ _ (c .before .before .before .if1 .left)
     (is-faulty (c .before .closing-fault .result) _ _ _ (closing-is (c .before)) (c .if2 .taken))
 
--- src/step.rt:34:9
 unit-record-requires : tie.Need-unit-record-requires
 unit-record-requires c κs = search needs
 
--- src/step.rt:35:9
 unit-fault-requires : tie.Need-unit-fault-requires
 unit-fault-requires c κs = search needs
 
--- src/step.rt:37:9
 returns-3 : tie.Need-returns-3
 returns-3 c =
     let start = c .before .before .before .before .before .before .before .before in
@@ -60,11 +49,9 @@ returns-3 c =
     (is-clean (c .before .before .before .before .closing-fault .result) _ _ _ _ (closing-is (c .before .before .before .before)) (c .before .before .before .if2 .left)
     (is-faulty (c .before .unit-fault .result) _ _ _ (c .before .unit-fault .ensures ∙ ap (faults.unitFault (start .args .units) (start .args .aquifers)) (c .before .before .unit-record .ensures)) (c .if3 .taken)))
 
--- src/step.rt:42:29
 add-t10 : tie.Need-add-t10
 add-t10 c = search needs
 
--- src/step.rt:15:1
 returns-4 : tie.Need-returns-4
 returns-4 c =
     let start = c .before .before .before .before .before .before .before .before in

@@ -1,58 +1,42 @@
-use Prim.Native.Nat.{pred, _-_}
-use mathlib.Core.Path.{_≡_, sym, ap, _∙_}
-use lib.ListN.{getD, set}
-use lib.Seq.{getD-set-other}
-use native.Mathlib.Omega.{arith}
+-- `register::post_withdrawal` meets its contract. Assumes nothing.
+use Prim.Native.Nat.{pred}
+use mathlib.Core.Path.{sym, _∙_}
+use lib.ListN.{getD}
 use native.Mathlib.Numerals.{sub-one}
-use Rattle.model.specs.Fresh.{emptyUnit, emptyAquifer}
-use Rattle.model.specs.declared.Title.the-variants.{UnitWithdrawal, AquiferWithdrawal, UnitTransfer, AquiferTransfer}
+use Rattle.model.specs.Fresh.{emptyUnit}
+use Rattle.model.specs.declared.Title.the-variants.{UnitWithdrawal}
 use Rattle.register.specs.Effect as effects
-use Rattle.register.specs.Reply.{posted, raiseAt, raiseWell}
-use Rattle.register.proofs.Raising.{raised-withdrawal, raised-export, raised-import, raised-bring, raised-pump, raised-source}
+use Rattle.register.proofs.Raising.{raised-withdrawal}
 use borrow.Author.Needs.{needs}
 use Rattle.register.proofs.effect.post_withdrawal.Statement.{statement}
 use Rattle.register.proofs.effect.post_withdrawal.Tie as tie
-use Rattle.register.proofs.effect.post_withdrawal.Reads as reads
-use Rattle.register.proofs.effect.post_withdrawal.Lts as lts
-use Rattle.register.proofs.effect.entered.Reads as entered-reads
-use Rattle.register.proofs.effect.withdrawn.Reads as withdrawn-reads
-use Rattle.titles.proofs.returned.Reads as returned-reads
 
--- src/effect.rt:67:13
 sub-k : tie.Need-sub-k
 sub-k c = search needs
 
--- src/effect.rt:68:13
 mul-u : tie.Need-mul-u
 mul-u c = search needs
 
--- src/effect.rt:68:13
 element-copy-out-u : tie.Need-element-copy-out-u
 element-copy-out-u c = search needs
 
--- src/effect.rt:69:39
 returned-requires : tie.Need-returned-requires
 returned-requires c κs = search needs
 
--- src/effect.rt:69:9
 withdrawn-requires : tie.Need-withdrawn-requires
 withdrawn-requires c κs =
     let start = c .before .before in
     rw (sub-one (start .args .unit), c .returned .ensures) (start .pre .fits .0, start .pre .fits .1)
 
--- src/effect.rt:70:5
 mul-raised : tie.Need-mul-raised
 mul-raised c = search needs
 
--- src/effect.rt:70:5
 element-set-from-raised : tie.Need-element-set-from-raised
 element-set-from-raised c = search needs
 
--- src/effect.rt:71:5
 entered-requires : tie.Need-entered-requires
 entered-requires c κs = search needs
 
--- src/effect.rt:63:1
 returns : tie.Need-returns
 returns c =
     let start = c .before .before .before .before in
@@ -60,9 +44,9 @@ returns c =
     let t = UnitWithdrawal (start .args .unit) (start .args .usage) (start .args .volume) in
     let k = sub-one (start .args .unit) in
     let e =
-      c .before .withdrawn .ensures
-      ∙ (λ i. effects.withdrawn (getD (b .units) (k i) emptyUnit) (start .args .volume) (c .before .before .returned .ensures i))
-      ∙ sym (raised-withdrawal (start .args .unit) (start .args .usage) (start .args .volume) (getD (b .units) (pred (start .args .unit)) emptyUnit) (start .pre .named .0)) in
+    c .before .withdrawn .ensures
+    ∙ (λ i. effects.withdrawn (getD (b .units) (k i) emptyUnit) (start .args .volume) (c .before .before .returned .ensures i))
+    ∙ sym (raised-withdrawal (start .args .unit) (start .args .usage) (start .args .volume) (getD (b .units) (pred (start .args .unit)) emptyUnit) (start .pre .named .0)) in
     c .entered .ensures ∙ (λ i. effects.entered (effects.withUnit b (k i) (e i)) t)
 
 pub post-withdrawal-spec : {M : Type 1} → statement M

@@ -1,9 +1,8 @@
 -- `register::settle` meets its contract. Assumes nothing.
 use Prim.Native.Nat.{ℕ, _+_, _<_}
-use mathlib.Core.Path.{_≡_, refl, sym, ap, subst, subst⁻¹, _∙_}
+use mathlib.Core.Path.{_≡_, sym, ap, subst⁻¹, _∙_}
 use native.Mathlib.Omega.{arith}
 use borrow.Author.Needs.{needs}
-use Rattle.model.specs.declared.Answer.{Answer}
 use Rattle.model.specs.declared.Balance.{Balance}
 use Rattle.model.specs.declared.Answer.the-variants.{Accepted}
 use Rattle.model.specs.View.{View, viewOf}
@@ -11,7 +10,6 @@ use Rattle.basin.proofs.Soundness.{soundness}
 use Rattle.river.specs.Flow.{Ready}
 use Rattle.river.specs.Figures.{WellsReady}
 use Rattle.register.specs.Grant.{granted, noWater}
-use Rattle.register.specs.Reply.{posted}
 use Rattle.register.specs.Steps.{Named}
 use Rattle.register.specs.declared.Reply.{Reply}
 use Rattle.register.proofs.Granting.{granting-of, granted-ready, granted-wells-ready, granted-named}
@@ -41,10 +39,11 @@ no-water-requires c κs =
     let start = c .before .before in
     let v = viewOf (start .args .b) in
     let s = soundness v (start .pre .0) in
-    let g = granting-of v (start .args .t) (start .pre .1) in
-    (subst⁻¹ Ready (view c) (granted-ready v (start .args .t) s g),
-    subst⁻¹ WellsReady (view c) (granted-wells-ready v (start .args .t) s g),
-    subst⁻¹ (λ (w : View). Named w (start .args .t)) (view c) (granted-named v (start .args .t) (g .named)))
+    let g = granting-of v (start .args .t) (start .pre .1) in (
+      subst⁻¹ Ready (view c) (granted-ready v (start .args .t) s g),
+      subst⁻¹ WellsReady (view c) (granted-wells-ready v (start .args .t) s g),
+      subst⁻¹ (λ (w : View). Named w (start .args .t)) (view c) (granted-named v (start .args .t) (g .named)),
+    )
 
 refused-requires : tie.Need-refused-requires
 refused-requires c κs = search needs

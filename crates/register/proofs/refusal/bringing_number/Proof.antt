@@ -1,12 +1,12 @@
-use Prim.Native.Nat.{pred, _+_, _-_}
-use mathlib.Core.Path.{_≡_, refl, sym, ap, _∙_}
+-- `register::bringing_number` meets its contract. Assumes nothing.
+use Prim.Native.Nat.{_+_}
+use mathlib.Core.Path.{refl, sym, ap, _∙_}
 use mathlib.Core.Bool.{_||_}
 use lib.ListN.{getD}
 use native.Mathlib.Omega.{arith}
 use native.Mathlib.Numerals.{sub-one}
 use Rattle.laws.proofs.Chain.{hit, miss, t-and, f-and, f-and-on}
 use Rattle.model.specs.Fresh.{emptyUnit, emptyAquifer}
-use Rattle.titles.specs.Adds.{returned}
 use Rattle.basin.proofs.Soundness.{number-exists, Exists}
 use Rattle.register.specs.Grant.{past}
 use Rattle.register.specs.Steps.{volumeNumber}
@@ -57,8 +57,8 @@ returns c =
     let j = sub-one (start .args .aquifer) in
     let k = sub-one (start .args .unit) in
     let e =
-      c .before .either-past .ensures
-      ∙ (λ i. past (getD (b .aquifers) (j i) emptyAquifer .extraction + start .args .volume) || past (getD (b .units) (k i) emptyUnit .imports + start .args .volume)) in
+    c .before .either-past .ensures
+    ∙ (λ i. past (getD (b .aquifers) (j i) emptyAquifer .extraction + start .args .volume) || past (getD (b .units) (k i) emptyUnit .imports + start .args .volume)) in
     hit _ _ _ _ (t-and _ _ (sym (c .before .before .before .before .before .before .before .exists .ensures) ∙ c .before .before .before .before .before .before .if1 .taken) (sym (c .before .before .before .before .before .exists2 .ensures) ∙ c .before .before .before .before .if2 .taken))
     (c .volume-number .ensures ∙ ap (volumeNumber (b .given) (start .args .volume)) e)
 

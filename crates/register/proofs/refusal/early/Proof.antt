@@ -1,5 +1,5 @@
 -- `register::early` meets its contract. Assumes nothing.
-use mathlib.Core.Path.{_≡_, sym, ap, _∙_}
+use mathlib.Core.Path.{sym, ap, _∙_}
 use borrow.Author.Needs.{needs}
 use Rattle.model.specs.View.{viewOf}
 use Rattle.register.specs.Steps.{earlyNumber}

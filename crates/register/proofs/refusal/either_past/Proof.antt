@@ -1,4 +1,5 @@
-use mathlib.Core.Path.{_≡_, sym, _∙_}
+-- `register::either_past` meets its contract. Assumes nothing.
+use mathlib.Core.Path.{sym, _∙_}
 use Rattle.laws.proofs.Chain.{or-yes, or-on}
 use borrow.Author.Needs.{needs}
 use Rattle.register.proofs.refusal.either_past.Statement.{statement}

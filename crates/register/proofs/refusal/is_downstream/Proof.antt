@@ -1,6 +1,5 @@
 -- `register::is_downstream` meets its contract. Assumes nothing.
-use Prim.Native.Nat.{_-_}
-use mathlib.Core.Path.{_≡_, _∙_}
+use mathlib.Core.Path.{_∙_}
 use native.Mathlib.Numerals.{sub-one}
 use borrow.Author.Needs.{needs}
 use Rattle.laws.proofs.Chain.{or-yes, or-on, t-eq, f-eq}

@@ -1,12 +1,11 @@
-use Prim.Native.Nat.{pred, _+_, _-_}
-use mathlib.Core.Path.{_≡_, refl, sym, ap, _∙_}
-use mathlib.Core.Bool.{_||_}
+-- `register::pumping_number` meets its contract. Assumes nothing.
+use Prim.Native.Nat.{_+_}
+use mathlib.Core.Path.{refl, sym, ap, _∙_}
 use lib.ListN.{getD}
 use native.Mathlib.Omega.{arith}
 use native.Mathlib.Numerals.{sub-one}
-use Rattle.laws.proofs.Chain.{hit, miss, t-and, f-and, f-and-on}
-use Rattle.model.specs.Fresh.{emptyUnit, emptyAquifer}
-use Rattle.titles.specs.Adds.{returned}
+use Rattle.laws.proofs.Chain.{hit, miss}
+use Rattle.model.specs.Fresh.{emptyAquifer}
 use Rattle.basin.proofs.Soundness.{number-exists, Exists}
 use Rattle.register.specs.Grant.{past}
 use Rattle.register.specs.Steps.{volumeNumber}

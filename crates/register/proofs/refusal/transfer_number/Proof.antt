@@ -1,6 +1,6 @@
 -- `register::transfer_number` meets its contract. Assumes nothing.
-use Prim.Native.Nat.{pred, _+_, _-_}
-use mathlib.Core.Path.{_≡_, refl, sym, ap, _∙_}
+use Prim.Native.Nat.{_+_}
+use mathlib.Core.Path.{refl, sym, ap, _∙_}
 use mathlib.Core.Bool.{_||_}
 use lib.ListN.{getD}
 use native.Mathlib.Omega.{arith}
@@ -71,8 +71,8 @@ returns-2 c =
     let j = sub-one (start .args .from) in
     let k = sub-one (start .args .to) in
     let e =
-      c .before .either-past .ensures
-      ∙ (λ i. past (getD (b .units) (j i) emptyUnit .exports + start .args .volume) || past (getD (b .units) (k i) emptyUnit .imports + start .args .volume)) in
+    c .before .either-past .ensures
+    ∙ (λ i. past (getD (b .units) (j i) emptyUnit .exports + start .args .volume) || past (getD (b .units) (k i) emptyUnit .imports + start .args .volume)) in
     hit _ _ _ _
     (t-and _ _ (sym (else .before .before .before .before .before .exists .ensures) ∙ else .before .before .before .before .if1 .taken)
     (sym (else .before .before .before .exists2 .ensures) ∙ else .before .before .if2 .taken))

@@ -1,4 +1,5 @@
-use mathlib.Core.Path.{_≡_, refl, sym, _∙_}
+-- `register::volume_number` meets its contract. Assumes nothing.
+use mathlib.Core.Path.{refl, sym, _∙_}
 use borrow.Author.Tests.{le-leb, lt-leb}
 use Rattle.laws.proofs.Chain.{hit, miss}
 use borrow.Author.Needs.{needs}

@@ -1,5 +1,5 @@
 -- `register::drained` meets its contract. Assumes nothing.
-use mathlib.Core.Path.{_≡_, sym, ap, _∙_}
+use mathlib.Core.Path.{_≡_, ap, _∙_}
 use mathlib.Core.Bool.{not}
 use lib.Signed.{nonNeg}
 use lib.ListN.{getD}
@@ -19,11 +19,11 @@ use Rattle.register.proofs.water.drained.Tie as tie
 aquifer-figures-requires : tie.Need-aquifer-figures-requires
 aquifer-figures-requires c κs = search needs
 
-mul-f : tie.Need-mul-f
-mul-f c = search needs
+mul-w : tie.Need-mul-w
+mul-w c = search needs
 
-array-copy-out-f : tie.Need-array-copy-out-f
-array-copy-out-f c = search needs
+array-copy-out-w : tie.Need-array-copy-out-w
+array-copy-out-w c = search needs
 
 returns : tie.Need-returns
 returns c =
@@ -33,9 +33,9 @@ returns c =
     let row = c .before .before .before .aquifer-figures .result in
     let f : SFits w64 (getD row k noAquiferFigures .availability) = search needs in
     let e : getD row k noAquiferFigures ≡ aquiferFigures v k =
-      ap (λ (w : List AquiferFigures). getD w k noAquiferFigures) (c .before .before .before .aquifer-figures .ensures)
-      ∙ getD-table 32 noAquiferFigures (v .aquifers) (aquiferFigures v) k (start .pre .1) (omega (arith, start .pre .0 .few, start .pre .1)) in
+    ap (λ (w : List AquiferFigures). getD w k noAquiferFigures) (c .before .before .before .aquifer-figures .ensures)
+    ∙ getD-table 32 noAquiferFigures (v .aquifers) (aquiferFigures v) k (start .pre .1) (omega (arith, start .pre .0 .few, start .pre .1)) in
     negative-kept _ f ∙ ap (λ (g : AquiferFigures). not (nonNeg (g .availability))) e
 
 pub drained-spec : {M : Type 1} → statement M
-drained-spec = tie.close (tie.spec aquifer-figures-requires mul-f array-copy-out-f returns)
+drained-spec = tie.close (tie.spec aquifer-figures-requires mul-w array-copy-out-w returns)

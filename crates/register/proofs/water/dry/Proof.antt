@@ -1,9 +1,8 @@
 -- `register::dry` meets its contract. The loop's invariant: none of the first i units is wanting. Assumes nothing.
 use Prim.Native.Nat.{ℕ, _≤_, _<_, _-_}
-use mathlib.Core.Path.{_≡_, refl, sym, ap, _∙_}
-use mathlib.Core.Bool.{true, false, not, _&&_}
+use mathlib.Core.Path.{_≡_, sym, ap, _∙_}
+use mathlib.Core.Bool.{false, not, _&&_}
 use mathlib.Core.List.{List}
-use lib.Dec.{eqb}
 use lib.ListN.{getD}
 use native.Mathlib.Omega.{arith}
 use borrow.Author.Count.{below-none, below-more}
@@ -64,8 +63,8 @@ module _ (v : View) (j : ℕ) (ends : List ℕ) (figures : List UnitFigures) (o 
       → wantingFigures (getD ends k 0) (getD ends j 0) (getD figures k noUnitFigures) ≡ wantingFigures (outlet v k) (outlet v j) (unitFigures v k)
   same k h =
       let f : getD figures k noUnitFigures ≡ unitFigures v k =
-        ap (λ (w : List UnitFigures). getD w k noUnitFigures) e
-        ∙ getD-table 64 noUnitFigures (v .units) (unitFigures v) k h (omega arith) in
+      ap (λ (w : List UnitFigures). getD w k noUnitFigures) e
+      ∙ getD-table 64 noUnitFigures (v .units) (unitFigures v) k h (omega arith) in
       λ i. wantingFigures (o .each k h i) (o .each j inside i) (f i)
 
 returns : tie.Need-returns Inv-loop μ-loop
@@ -77,7 +76,7 @@ returns c =
     let k = at .loop .i in
     let h : k < v .units = omega (arith, c .before .before .before .loop-test .taken) in
     let e =
-      same v j _ _ (at .before .outlets .ensures) (at .before .before .unit-figures .ensures) (start .pre .0 .few) (start .pre .1) k h in
+    same v j _ _ (at .before .outlets .ensures) (at .before .before .unit-figures .ensures) (start .pre .0 .few) (start .pre .1) k h in
     sym (ap not (every-fails (λ k. not (sameBasin v j k && wanting v k)) (v .units) k h (ap not (sym e ∙ sym (c .before .wanting .ensures) ∙ c .if1 .taken))))
 
 add-i : tie.Need-add-i Inv-loop μ-loop

@@ -1,6 +1,5 @@
 -- `register::no_water` meets its contract. Assumes nothing.
-use Prim.Native.Nat.{_-_}
-use mathlib.Core.Path.{_≡_, sym, ap, subst, _∙_}
+use mathlib.Core.Path.{sym, ap, subst, _∙_}
 use native.Mathlib.Omega.{arith}
 use native.Mathlib.Numerals.{sub-one}
 use borrow.Author.Needs.{needs}
@@ -47,13 +46,15 @@ cast-dry-2 : tie.Need-cast-dry-2
 cast-dry-2 c = search needs
 
 sub-dry-2 : tie.Need-sub-dry-2
-sub-dry-2 c = subst (Named (viewOf (c .before .before .before .args .b))) (c .before .t3 .given .1) (c .before .before .before .pre .2) .0
+sub-dry-2 c =
+    let named = subst (Named (viewOf (c .before .before .before .args .b))) (c .before .t3 .given .1) (c .before .before .before .pre .2) in
+    omega (arith, named .0, named .2)
 
 dry-requires-2 : tie.Need-dry-requires-2
 dry-requires-2 c κs =
     let start = c .before .before .before in
     let named = subst (Named (viewOf (start .args .b))) (c .before .t3 .given .1) (start .pre .2) in
-    (start .pre .0, omega (arith, named .0, named .1))
+    (start .pre .0, omega (arith, named .0, named .1, named .2, named .3))
 
 enum-known-t-4 : tie.Need-enum-known-t-4
 enum-known-t-4 c = search needs

@@ -1,4 +1,5 @@
-use Prim.Native.Nat.{ℕ, suc, _≤_, _<_, _+_, _-_}
+-- `river::aquifer_figures` meets its contract. Assumes nothing.
+use Prim.Native.Nat.{_≤_, _-_}
 use mathlib.Core.Path.{_≡_}
 use native.Mathlib.Omega.{arith}
 use native.Mathlib.Numerals.{add-one}
@@ -8,9 +9,6 @@ use Rattle.model.specs.View.{viewOf}
 use Rattle.river.specs.Figures.{aquiferFigures, noAquiferFigures}
 use Rattle.river.proofs.figures.aquifer_figures.Statement.{statement}
 use Rattle.river.proofs.figures.aquifer_figures.Tie as tie
-use Rattle.river.proofs.figures.aquifer_figures.Reads as reads
-use Rattle.river.proofs.figures.aquifer_figures.Lts as lts
-use Rattle.river.proofs.figures.of_aquifer.Reads as of-aquifer-reads
 
 abbrev Inv-loop : tie.InvT-loop
 Inv-loop b n all₀ i₀ all i =
@@ -19,52 +17,43 @@ Inv-loop b n all₀ i₀ all i =
 abbrev μ-loop : tie.MeasureT-loop
 μ-loop b n all₀ i₀ all i = n - i
 
--- src/figures.rt:102:5
 loop-holds : tie.Need-loop-holds Inv-loop μ-loop
 loop-holds c = (omega arith, filled-start 32 noAquiferFigures _)
 
--- src/figures.rt:103:17
 mul-a : tie.Need-mul-a Inv-loop μ-loop
 mul-a c = omega arith
 
--- src/figures.rt:103:17
 element-copy-out-a : tie.Need-element-copy-out-a Inv-loop μ-loop
 element-copy-out-a c = omega arith
 
--- src/figures.rt:104:13
 of-aquifer-requires : tie.Need-of-aquifer-requires Inv-loop μ-loop
 of-aquifer-requires c κs =
     let r = c .before .before .before .pre in
     (r .rises _ (c .before .loop-test .taken), r .falls _ (c .before .loop-test .taken))
 
--- src/figures.rt:105:9
 mul-all : tie.Need-mul-all Inv-loop μ-loop
 mul-all c = omega arith
 
--- src/figures.rt:105:9
 array-set-from-all : tie.Need-array-set-from-all Inv-loop μ-loop
 array-set-from-all c = omega arith
 
--- src/figures.rt:106:9
 add-i : tie.Need-add-i Inv-loop μ-loop
 add-i c = omega arith
 
--- src/figures.rt:102:5
 loop-less : tie.Need-loop-less Inv-loop μ-loop
 loop-less c = falls _ _ (c .before .before .loop-test .taken)
 
--- src/figures.rt:102:5
 loop-again : tie.Need-loop-again Inv-loop μ-loop
 loop-again c =
     let start = c .before .before .before .before in
     let v = viewOf (start .args .t1) in
     let i = c .before .before .before .loop .i in
-    rw (add-one i)
-    (c .before .before .loop-test .taken,
+    rw (add-one i) (
+      c .before .before .loop-test .taken,
       filled-put 32 noAquiferFigures (aquiferFigures v) i (c .before .before .before .loop .all) _ (omega (arith, start .pre .few))
-      (c .of-aquifer .ensures) (c .before .before .before .loop .inv .1))
+          (c .of-aquifer .ensures) (c .before .before .before .loop .inv .1),
+    )
 
--- src/figures.rt:91:1
 returns : tie.Need-returns Inv-loop μ-loop
 returns c =
     let v = viewOf (c .before .before .args .t1) in

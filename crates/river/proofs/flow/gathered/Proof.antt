@@ -1,7 +1,7 @@
 -- `river::gathered` meets its contract. The loop's invariant: each of the first i units has gathered its part, and `arrived` holds what those
 -- brought to each unit. Assumes nothing.
 use Prim.Native.Nat.{ℕ, suc, _≤_, _<_, _+_, _-_}
-use mathlib.Core.Path.{_≡_, refl, sym, ap, _∙_}
+use mathlib.Core.Path.{_≡_}
 use mathlib.Core.Logic.{⊎-elim}
 use native.Mathlib.Omega.{arith}
 use native.Mathlib.Numerals.{add-one}
@@ -14,9 +14,6 @@ use Rattle.river.specs.Flow.{downstream, gathered, Ready}
 use Rattle.river.proofs.Flows.{gathered-is, gathered-small, arrived-small, small}
 use Rattle.river.proofs.flow.gathered.Statement.{statement}
 use Rattle.river.proofs.flow.gathered.Tie as tie
-use Rattle.river.proofs.flow.gathered.Reads as reads
-use Rattle.river.proofs.flow.gathered.Lts as lts
-use Rattle.river.proofs.flow.part.Reads as part-reads
 
 abbrev Inv-loop : tie.InvT-loop
 Inv-loop lost b n arrived₀ water₀ i₀ arrived water i =
@@ -53,10 +50,12 @@ here-is c =
     let v = viewOf (c .before .before .before .before .args .t1) in
     let lost = c .before .before .before .before .args .lost in
     let i = c .before .before .before .loop .i in
-    omega (arith,
+    omega (
+      arith,
       c .before .before .before .loop .inv .1 .each i (omega (arith, c .before .before .before .before .pre .few)),
       c .part .ensures,
-      gathered-is v lost i)
+      gathered-is v lost i,
+    )
 
 here-small : (c : tie.After-part Inv-loop μ-loop)
     → getD (c .before .before .before .loop .arrived) (c .before .before .before .loop .i) 0 + c .part .result ≤ 2560000000
@@ -88,8 +87,11 @@ onward b i r h g =
 
 down-within : (c : tie.After-struct-known Inv-loop μ-loop) → downstream (viewOf (c .before .before .before .before .before .args .t1)) (c .before .before .before .before .loop .i) ≤ 64
 down-within c =
-    omega (arith, c .before .before .before .before .before .pre .within (c .before .before .before .before .loop .i) (c .before .before .before .loop-test .taken),
-      c .before .before .before .before .before .pre .few)
+    omega (
+      arith,
+      c .before .before .before .before .before .pre .within (c .before .before .before .before .loop .i) (c .before .before .before .loop-test .taken),
+      c .before .before .before .before .before .pre .few,
+    )
 
 cast-d : tie.Need-cast-d Inv-loop μ-loop
 cast-d c = omega (arith, down-within c)
@@ -111,9 +113,12 @@ add-arrived c =
     let start = c .before .before .before .before .before .before in
     let i = c .before .before .before .before .before .loop .i in
     let k = downstream (viewOf (start .args .t1)) i - 1 in
-    omega (arith, here-small (c .before .before),
+    omega (
+      arith,
+      here-small (c .before .before),
       c .before .before .before .before .before .loop .inv .1 .each k (array-read-arrived c),
-      arrived-small (viewOf (start .args .t1)) (start .args .lost) (start .pre) i k (taken-onward c .later) (taken-onward c .within))
+      arrived-small (viewOf (start .args .t1)) (start .args .lost) (start .pre) i k (taken-onward c .later) (taken-onward c .within),
+    )
 
 mul-arrived-2 : tie.Need-mul-arrived-2 Inv-loop μ-loop
 mul-arrived-2 c = omega (arith, down-within (c .before))
@@ -135,17 +140,18 @@ loop-again c =
     let loop = c .before .before .before .before .before .loop in
     let i = loop .i in
     let t = c .before .before .before .before .loop-test .taken in
-    rw (add-one i, here-is (c .before .before))
-    (t,
+    rw (add-one i, here-is (c .before .before)) (
+      t,
       ⊎-elim
-        (λ w.
+          (λ w.
           let k = downstream v i - 1 in
           let e : downstream v i ≡ suc k = omega (arith, w .0 .taken) in
           rw (w .1, here-is (c .before .before))
           (arrived-on 64 (downstream v) G i k (loop .arrived) e (omega (arith, down-within (c .before))) (loop .inv .1)))
-        (λ w. rw (w .1) (arrived-out 64 (downstream v) G i (loop .arrived) (omega (arith, w .0 .left)) (loop .inv .1)))
-        (c .if1 .came),
-      filled-more 64 0 G i (loop .water) (omega (arith, start .pre .few)) (loop .inv .2))
+          (λ w. rw (w .1) (arrived-out 64 (downstream v) G i (loop .arrived) (omega (arith, w .0 .left)) (loop .inv .1)))
+          (c .if1 .came),
+      filled-more 64 0 G i (loop .water) (omega (arith, start .pre .few)) (loop .inv .2),
+    )
 
 returns : tie.Need-returns Inv-loop μ-loop
 returns c =

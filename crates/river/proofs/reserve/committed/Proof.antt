@@ -1,24 +1,20 @@
-use Prim.Native.Nat.{ℕ, suc, pred, _≤_, _<_, _+_, _-_}
-use mathlib.Core.Path.{_≡_, refl, sym, ap, _∙_}
-use mathlib.Core.Logic.{⊎-elim}
+-- `river::committed` meets its contract. Assumes nothing.
+use Prim.Native.Nat.{ℕ, suc, pred, _≤_, _<_, _-_}
+use mathlib.Core.Path.{_≡_, sym, _∙_}
 use lib.ListN.{getD}
 use native.Mathlib.Omega.{arith}
-use native.Mathlib.Numerals.{add-one, sub-one}
+use native.Mathlib.Numerals.{sub-one}
 use borrow.Author.Needs.{needs}
 use borrow.Author.Count.{falls-down}
-use borrow.Author.Tests.{eq-eqb, ne-eqb}
+use borrow.Author.Tests.{ne-eqb}
 use Rattle.laws.proofs.Arrays.{FilledDown, filled-down-start, filled-down-more}
 use Rattle.model.specs.View.{View, viewOf}
-use Rattle.river.specs.Flow.{downstream, gathered, Ready}
-use Rattle.river.specs.Reserve.{contribution, runningTotal, total, demand, inflow, shareAbove, committed}
+use Rattle.river.specs.Flow.{downstream}
+use Rattle.river.specs.Reserve.{contribution, runningTotal, committed}
 use Rattle.river.specs.Passes.{runningBefore}
-use Rattle.river.proofs.Reserves.{Below, below-of, contribution-is, running-within, total-small, committed-outlet, committed-share, splits}
+use Rattle.river.proofs.Reserves.{Below, below-of, contribution-is, running-within, committed-outlet, committed-share, splits}
 use Rattle.river.proofs.reserve.committed.Statement.{statement}
 use Rattle.river.proofs.reserve.committed.Tie as tie
-use Rattle.river.proofs.reserve.committed.Reads as reads
-use Rattle.river.proofs.reserve.committed.Lts as lts
-use Rattle.river.proofs.reserve.contribution.Reads as contribution-reads
-use Rattle.river.proofs.reserve.from_below.Reads as from-below-reads
 
 abbrev Inv-loop : tie.InvT-loop
 Inv-loop b gained lost n before arrived volumes₀ i₀ volumes i =
@@ -27,35 +23,27 @@ Inv-loop b gained lost n before arrived volumes₀ i₀ volumes i =
 abbrev μ-loop : tie.MeasureT-loop
 μ-loop b gained lost n before arrived volumes₀ i₀ volumes i = i
 
--- src/reserve.rt:128:5
 loop-holds : tie.Need-loop-holds Inv-loop μ-loop
 loop-holds c = (omega arith, filled-down-start 64 0 _ _)
 
--- src/reserve.rt:129:9
 sub-i : tie.Need-sub-i Inv-loop μ-loop
 sub-i c = omega arith
 
--- src/reserve.rt:130:17
 mul-u : tie.Need-mul-u Inv-loop μ-loop
 mul-u c = omega arith
 
--- src/reserve.rt:130:17
 element-copy-out-u : tie.Need-element-copy-out-u Inv-loop μ-loop
 element-copy-out-u c = omega arith
 
--- src/reserve.rt:131:17
 cast-d : tie.Need-cast-d Inv-loop μ-loop
 cast-d c = omega arith
 
--- src/reserve.rt:133:21
 sub-k : tie.Need-sub-k Inv-loop μ-loop
 sub-k c = omega arith
 
--- src/reserve.rt:134:21
 mul-w : tie.Need-mul-w Inv-loop μ-loop
 mul-w c = omega arith
 
--- src/reserve.rt:134:21
 onward : (c : tie.Then1 Inv-loop μ-loop)
     → Below (viewOf (c .before .before .before .before .before .before .before .args .t1)) (c .before .before .before .before .loop .i - 1)
 onward c =
@@ -67,51 +55,39 @@ onward c =
 element-copy-out-w : tie.Need-element-copy-out-w Inv-loop μ-loop
 element-copy-out-w c = omega (arith, onward c .within, c .before .before .before .before .before .before .before .pre .0 .few)
 
--- src/reserve.rt:135:36
 mul-contribution : tie.Need-mul-contribution Inv-loop μ-loop
 mul-contribution c = omega arith
 
--- src/reserve.rt:135:36
 array-read-contribution : tie.Need-array-read-contribution Inv-loop μ-loop
 array-read-contribution c = omega arith
 
--- src/reserve.rt:135:47
 mul-contribution-2 : tie.Need-mul-contribution-2 Inv-loop μ-loop
 mul-contribution-2 c = omega arith
 
--- src/reserve.rt:135:47
 array-read-contribution-2 : tie.Need-array-read-contribution-2 Inv-loop μ-loop
 array-read-contribution-2 c = omega arith
 
--- src/reserve.rt:135:17
 contribution-requires : tie.Need-contribution-requires Inv-loop μ-loop
 contribution-requires c κs = search needs
 
--- src/reserve.rt:136:40
 mul-from-below : tie.Need-mul-from-below Inv-loop μ-loop
 mul-from-below c = omega arith
 
--- src/reserve.rt:136:40
 array-read-from-below : tie.Need-array-read-from-below Inv-loop μ-loop
 array-read-from-below c = element-copy-out-w (c .before .before)
 
--- src/reserve.rt:136:52
 mul-from-below-2 : tie.Need-mul-from-below-2 Inv-loop μ-loop
 mul-from-below-2 c = omega arith
 
--- src/reserve.rt:136:52
 array-read-from-below-2 : tie.Need-array-read-from-below-2 Inv-loop μ-loop
 array-read-from-below-2 c = element-copy-out-w (c .before .before)
 
--- src/reserve.rt:136:64
 mul-from-below-3 : tie.Need-mul-from-below-3 Inv-loop μ-loop
 mul-from-below-3 c = omega arith
 
--- src/reserve.rt:136:64
 array-read-from-below-3 : tie.Need-array-read-from-below-3 Inv-loop μ-loop
 array-read-from-below-3 c = omega arith
 
--- src/reserve.rt:136:26
 -- What the loop reads at the unit and at its downstream unit.
 record Read (v : View) (j volume arrived before own : ℕ) : Type 0 where
   volume-is : volume ≡ committed v (pred (downstream v j))
@@ -121,13 +97,13 @@ record Read (v : View) (j volume arrived before own : ℕ) : Type 0 where
 
 reads-of : (c : tie.After-contribution Inv-loop μ-loop)
     → Read (viewOf (c .before .before .before .before .before .before .before .before .before .args .t1))
-      (c .before .before .before .before .before .before .loop .i - 1)
-      (getD (c .before .before .before .before .before .before .loop .volumes)
-        (downstream (viewOf (c .before .before .before .before .before .before .before .before .before .args .t1)) (c .before .before .before .before .before .before .loop .i - 1) - 1) 0)
-      (getD (c .before .before .before .before .before .before .before .before .before .args .run .arrived)
-        (downstream (viewOf (c .before .before .before .before .before .before .before .before .before .args .t1)) (c .before .before .before .before .before .before .loop .i - 1) - 1) 0)
-      (getD (c .before .before .before .before .before .before .before .before .before .args .run .before) (c .before .before .before .before .before .before .loop .i - 1) 0)
-      (c .contribution .result)
+    (c .before .before .before .before .before .before .loop .i - 1)
+    (getD (c .before .before .before .before .before .before .loop .volumes)
+    (downstream (viewOf (c .before .before .before .before .before .before .before .before .before .args .t1)) (c .before .before .before .before .before .before .loop .i - 1) - 1) 0)
+    (getD (c .before .before .before .before .before .before .before .before .before .args .run .arrived)
+    (downstream (viewOf (c .before .before .before .before .before .before .before .before .before .args .t1)) (c .before .before .before .before .before .before .loop .i - 1) - 1) 0)
+    (getD (c .before .before .before .before .before .before .before .before .before .args .run .before) (c .before .before .before .before .before .before .loop .i - 1) 0)
+    (c .contribution .result)
 reads-of c =
     let start = c .before .before .before .before .before .before .before .before .before in
     let v = viewOf (start .args .t1) in
@@ -140,7 +116,8 @@ reads-of c =
       volume-is = rw (sub-one (downstream v j)) (loop .inv .1 .done (pred (downstream v j)) (omega (arith, b .later)) (b .within));
       arrived-is = rw (sub-one (downstream v j)) (r .each-arrived (pred (downstream v j)) (b .within));
       before-is = r .each-before j h ∙ inner v j b;
-      own-is = omega (arith, c .contribution .ensures, start .pre .1 .0 .each j h, start .pre .1 .1 .0 .each j h, contribution-is v j) }
+      own-is = omega (arith, c .contribution .ensures, start .pre .1 .0 .each j h, start .pre .1 .1 .0 .each j h, contribution-is v j);
+    }
   where
     inner : (v : View) (j : ℕ) → Below v j → runningBefore v j ≡ runningTotal v (pred (downstream v j)) j
     inner v j b = rw (ne-eqb (downstream v j) 0 (omega (arith, b .next)))
@@ -155,19 +132,15 @@ from-below-requires c κs =
     rw (q .volume-is, q .arrived-is, q .before-is, q .own-is, sub-one (downstream v j))
     (splits v (start .pre .0) (pred (downstream v j)) (b .within), running-within v j b)
 
--- src/reserve.rt:136:13
 mul-volumes : tie.Need-mul-volumes Inv-loop μ-loop
 mul-volumes c = omega arith
 
--- src/reserve.rt:136:13
 array-write-volumes : tie.Need-array-write-volumes Inv-loop μ-loop
 array-write-volumes c = omega arith
 
--- src/reserve.rt:128:5
 loop-less : tie.Need-loop-less Inv-loop μ-loop
 loop-less c = falls-down _ (c .before .before .before .before .before .before .loop-test .taken)
 
--- src/reserve.rt:128:5
 loop-again : tie.Need-loop-again Inv-loop μ-loop
 loop-again c =
     let start = c .before .before .before .before .before .before .before .before .before .before in
@@ -178,30 +151,26 @@ loop-again c =
     let t = c .before .before .before .before .before .before .loop-test .taken in
     let h : j < v .units = omega (arith, loop .inv .0) in
     let e : loop .i ≡ suc j = omega (arith, t) in
-    let q = reads-of (c .before) in
-    (omega (arith, h),
+    let q = reads-of (c .before) in (
+      omega (arith, h),
       filled-down-more 64 0 (committed v) (v .units) j (loop .volumes) _ (omega (arith, start .pre .0 .few)) h
-        ((rw (q .volume-is, q .arrived-is, q .before-is, q .own-is, sub-one (downstream v j)) at (c .from-below .ensures))
+          ((rw (q .volume-is, q .arrived-is, q .before-is, q .own-is, sub-one (downstream v j)) at (c .from-below .ensures))
           ∙ sym (committed-share v (start .pre .0) j h (omega (arith, b .next))))
-        (rw e at (loop .inv .1)))
+          (rw e at (loop .inv .1)),
+    )
 
--- src/reserve.rt:138:26
 cast-volumes : tie.Need-cast-volumes Inv-loop μ-loop
 cast-volumes c = omega arith
 
--- src/reserve.rt:138:13
 mul-volumes-2 : tie.Need-mul-volumes-2 Inv-loop μ-loop
 mul-volumes-2 c = omega arith
 
--- src/reserve.rt:138:13
 array-write-volumes-2 : tie.Need-array-write-volumes-2 Inv-loop μ-loop
 array-write-volumes-2 c = omega arith
 
--- src/reserve.rt:128:5
 loop-less-2 : tie.Need-loop-less-2 Inv-loop μ-loop
 loop-less-2 c = falls-down _ (c .before .before .before .before .loop-test .taken)
 
--- src/reserve.rt:128:5
 loop-again-2 : tie.Need-loop-again-2 Inv-loop μ-loop
 loop-again-2 c =
     let start = c .before .before .before .before .before .before .before .before in
@@ -210,12 +179,12 @@ loop-again-2 c =
     let j = loop .i - 1 in
     let t = c .before .before .before .before .loop-test .taken in
     let h : j < v .units = omega (arith, loop .inv .0) in
-    let e : loop .i ≡ suc j = omega (arith, t) in
-    (omega (arith, h),
+    let e : loop .i ≡ suc j = omega (arith, t) in (
+      omega (arith, h),
       filled-down-more 64 0 (committed v) (v .units) j (loop .volumes) _ (omega (arith, start .pre .0 .few)) h
-        (sym (committed-outlet v j (omega (arith, c .before .if1 .left)))) (rw e at (loop .inv .1)))
+          (sym (committed-outlet v j (omega (arith, c .before .if1 .left)))) (rw e at (loop .inv .1)),
+    )
 
--- src/reserve.rt:116:1
 returns : tie.Need-returns Inv-loop μ-loop
 returns c =
     let e : c .before .loop .i ≡ 0 = omega (arith, c .loop-test .left) in

@@ -1,7 +1,7 @@
+-- `river::running` meets its contract. Assumes nothing.
 use Prim.Native.Nat.{ℕ, suc, pred, _≤_, _<_, _+_, _-_}
-use mathlib.Core.Path.{_≡_, refl, sym, ap, _∙_}
+use mathlib.Core.Path.{_≡_, _∙_}
 use mathlib.Core.Logic.{⊎-elim}
-use lib.ListN.{getD}
 use native.Mathlib.Omega.{arith}
 use native.Mathlib.Numerals.{add-one, sub-one}
 use Rattle.laws.specs.Sum.{naturals}
@@ -12,17 +12,13 @@ use borrow.Author.Needs.{needs}
 use borrow.Author.Count.{falls}
 use borrow.Author.Tests.{eq-eqb, ne-eqb}
 use Rattle.laws.proofs.Arrays.{Filled, filled-start, filled-put, filled-keep, Arrived, arrived-start, arrived-out, arrived-on}
-use Rattle.model.specs.declared.Balance.{Balance}
 use Rattle.model.specs.View.{View, viewOf}
-use Rattle.river.specs.Flow.{downstream, gathered, Ready}
-use Rattle.river.specs.Reserve.{contribution, runningTotal, total, committed}
+use Rattle.river.specs.Flow.{downstream}
+use Rattle.river.specs.Reserve.{contribution, total}
 use Rattle.river.specs.Passes.{runningBefore}
 use Rattle.river.proofs.Reserves.{Below, below-of, contribution-is, running-within, total-small}
 use Rattle.river.proofs.reserve.running.Statement.{statement}
 use Rattle.river.proofs.reserve.running.Tie as tie
-use Rattle.river.proofs.reserve.running.Reads as reads
-use Rattle.river.proofs.reserve.running.Lts as lts
-use Rattle.river.proofs.reserve.contribution.Reads as contribution-reads
 
 abbrev Inv-loop : tie.InvT-loop
 Inv-loop b gained lost n before₀ arrived₀ i₀ before arrived i =
@@ -33,31 +29,24 @@ Inv-loop b gained lost n before₀ arrived₀ i₀ before arrived i =
 abbrev μ-loop : tie.MeasureT-loop
 μ-loop b gained lost n before₀ arrived₀ i₀ before arrived i = n - i
 
--- src/reserve.rt:84:5
 loop-holds : tie.Need-loop-holds Inv-loop μ-loop
 loop-holds c = (omega arith, filled-start 64 0 _, arrived-start 64 _ _)
 
--- src/reserve.rt:85:17
 mul-u : tie.Need-mul-u Inv-loop μ-loop
 mul-u c = omega arith
 
--- src/reserve.rt:85:17
 element-copy-out-u : tie.Need-element-copy-out-u Inv-loop μ-loop
 element-copy-out-u c = omega arith
 
--- src/reserve.rt:86:17
 cast-d : tie.Need-cast-d Inv-loop μ-loop
 cast-d c = omega arith
 
--- src/reserve.rt:88:21
 sub-k : tie.Need-sub-k Inv-loop μ-loop
 sub-k c = omega arith
 
--- src/reserve.rt:89:25
 mul-found : tie.Need-mul-found Inv-loop μ-loop
 mul-found c = omega arith
 
--- src/reserve.rt:89:25
 onward : (c : tie.Then1 Inv-loop μ-loop) → Below (viewOf (c .before .before .before .before .before .args .t1)) (c .before .before .before .before .loop .i)
 onward c =
     below-of (viewOf (c .before .before .before .before .before .args .t1)) (c .before .before .before .before .before .pre .0)
@@ -66,35 +55,27 @@ onward c =
 array-read-found : tie.Need-array-read-found Inv-loop μ-loop
 array-read-found c = omega (arith, onward c .within, c .before .before .before .before .before .pre .0 .few)
 
--- src/reserve.rt:90:13
 mul-before : tie.Need-mul-before Inv-loop μ-loop
 mul-before c = omega arith
 
--- src/reserve.rt:90:13
 array-write-before : tie.Need-array-write-before Inv-loop μ-loop
 array-write-before c = omega arith
 
--- src/reserve.rt:91:47
 mul-contribution : tie.Need-mul-contribution Inv-loop μ-loop
 mul-contribution c = omega arith
 
--- src/reserve.rt:91:47
 array-read-contribution : tie.Need-array-read-contribution Inv-loop μ-loop
 array-read-contribution c = omega arith
 
--- src/reserve.rt:91:58
 mul-contribution-2 : tie.Need-mul-contribution-2 Inv-loop μ-loop
 mul-contribution-2 c = omega arith
 
--- src/reserve.rt:91:58
 array-read-contribution-2 : tie.Need-array-read-contribution-2 Inv-loop μ-loop
 array-read-contribution-2 c = omega arith
 
--- src/reserve.rt:91:34
 contribution-requires : tie.Need-contribution-requires Inv-loop μ-loop
 contribution-requires c κs = search needs
 
--- src/reserve.rt:91:26
 -- What the unit leaves is its contribution.
 contributed : (c : tie.After-contribution Inv-loop μ-loop)
     → c .contribution .result ≡ contribution (viewOf (c .before .before .before .before .before .before .args .t1)) (c .before .before .before .before .before .loop .i)
@@ -120,26 +101,26 @@ add-arrived c =
     let start = c .before .before .before .before .before .before in
     let v = viewOf (start .args .t1) in
     let i = c .before .before .before .before .before .loop .i in
-    omega (arith, c .before .before .before .before .before .loop .inv .2 .each (downstream v i - 1) (array-read-found (c .before)),
-      contributed c, here v i (onward (c .before)), total-small v (start .pre .0) (pred (downstream v i)) (onward (c .before) .within))
+    omega (
+      arith,
+      c .before .before .before .before .before .loop .inv .2 .each (downstream v i - 1) (array-read-found (c .before)),
+      contributed c,
+      here v i (onward (c .before)),
+      total-small v (start .pre .0) (pred (downstream v i)) (onward (c .before) .within),
+    )
 
--- src/reserve.rt:91:13
 mul-arrived : tie.Need-mul-arrived Inv-loop μ-loop
 mul-arrived c = omega arith
 
--- src/reserve.rt:91:13
 array-write-arrived : tie.Need-array-write-arrived Inv-loop μ-loop
 array-write-arrived c = array-read-found (c .before)
 
--- src/reserve.rt:93:9
 add-i : tie.Need-add-i Inv-loop μ-loop
 add-i c = omega arith
 
--- src/reserve.rt:84:5
 loop-less : tie.Need-loop-less Inv-loop μ-loop
 loop-less c = falls _ _ (c .before .before .before .loop-test .taken)
 
--- src/reserve.rt:84:5
 loop-again : tie.Need-loop-again Inv-loop μ-loop
 loop-again c =
     let start = c .before .before .before .before .before in
@@ -150,22 +131,23 @@ loop-again c =
     let few : i < 64 = omega (arith, start .pre .0 .few) in
     rw (add-one i)
     (⊎-elim
-      (λ w.
-        let here : tie.After-contribution Inv-loop μ-loop = record { before = record { before = c .before; if1 = w .0 }; contribution = w .1 } in
-        let b = onward (here .before) in
-        let k = array-read-found (here .before) in
-        let e : downstream v i ≡ suc (downstream v i - 1) = omega (arith, w .0 .taken) in
-        (t,
-          rw (w .2) (filled-put 64 0 (runningBefore v) i (loop .before) _ few (loop .inv .2 .each (downstream v i - 1) k ∙ found-is v i b) (loop .inv .1)),
-          rw (w .3, contributed here) (arrived-on 64 (downstream v) (contribution v) i (downstream v i - 1) (loop .arrived) e k (loop .inv .2))))
-      (λ w.
-        let e : downstream v i ≡ 0 = omega (arith, w .0 .left) in
-        (t,
-          rw (w .1) (filled-keep 64 0 (runningBefore v) i (loop .before) (outlet-is v i e) (loop .inv .1)),
-          rw (w .2) (arrived-out 64 (downstream v) (contribution v) i (loop .arrived) e (loop .inv .2))))
-      (c .if1 .came))
+    (λ w.
+    let here : tie.After-contribution Inv-loop μ-loop = record { before = record { before = c .before; if1 = w .0 }; contribution = w .1 } in
+    let b = onward (here .before) in
+    let k = array-read-found (here .before) in
+    let e : downstream v i ≡ suc (downstream v i - 1) = omega (arith, w .0 .taken) in (
+      t,
+      rw (w .2) (filled-put 64 0 (runningBefore v) i (loop .before) _ few (loop .inv .2 .each (downstream v i - 1) k ∙ found-is v i b) (loop .inv .1)),
+      rw (w .3, contributed here) (arrived-on 64 (downstream v) (contribution v) i (downstream v i - 1) (loop .arrived) e k (loop .inv .2)),
+    ))
+    (λ w.
+    let e : downstream v i ≡ 0 = omega (arith, w .0 .left) in (
+      t,
+      rw (w .1) (filled-keep 64 0 (runningBefore v) i (loop .before) (outlet-is v i e) (loop .inv .1)),
+      rw (w .2) (arrived-out 64 (downstream v) (contribution v) i (loop .arrived) e (loop .inv .2)),
+    ))
+    (c .if1 .came))
 
--- src/reserve.rt:74:1
 returns : tie.Need-returns Inv-loop μ-loop
 returns c =
     let v = viewOf (c .before .before .args .t1) in
@@ -177,7 +159,8 @@ returns c =
       long-before = f .long;
       long-arrived = g .long;
       each-before = f .done;
-      each-arrived = λ w h. g .each w (omega (arith, r .few)) ∙ arriving-stays (downstream v) (contribution v) (v .units) (v .units) w (tree v r) (omega arith) (omega arith) }
+      each-arrived = λ w h. g .each w (omega (arith, r .few)) ∙ arriving-stays (downstream v) (contribution v) (v .units) (v .units) w (tree v r) (omega arith) (omega arith);
+    }
 
 pub running-spec : {M : Type 1} → statement M
 running-spec =

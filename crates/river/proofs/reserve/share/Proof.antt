@@ -1,3 +1,4 @@
+-- `river::share` meets its contract. Assumes nothing.
 use Prim.Native.Nat.{_≤_}
 use native.Mathlib.Nat.{mul-le-mul}
 use native.Mathlib.Omega.{arith}
@@ -5,33 +6,25 @@ use borrow.Author.Needs.{needs}
 use Rattle.laws.proofs.Splitting.{floor-mono}
 use Rattle.river.proofs.reserve.share.Statement.{statement}
 use Rattle.river.proofs.reserve.share.Tie as tie
-use Rattle.river.proofs.reserve.share.Reads as reads
-use Rattle.river.proofs.reserve.share.Lts as lts
 
 without : (c : tie.Start) → c .args .without ≤ 2610000000
 without c = omega (arith, c .pre .2, c .pre .3)
 
--- src/reserve.rt:48:5
 mul-result : tie.Need-mul-result
 mul-result c = record { fits = omega (arith, mul-le-mul (c .pre .1) (c .pre .3)) }
 
--- src/reserve.rt:48:5
 div-result : tie.Need-div-result
 div-result c = search needs
 
--- src/reserve.rt:48:29
 mul-result-2 : tie.Need-mul-result-2
 mul-result-2 c = record { fits = omega (arith, mul-le-mul (c .pre .1) (without c)) }
 
--- src/reserve.rt:48:29
 div-result-2 : tie.Need-div-result-2
 div-result-2 c = search needs
 
--- src/reserve.rt:48:5
 sub-result : tie.Need-sub-result
 sub-result c = floor-mono (c .args .demand) (c .args .without) (c .args .with) (c .args .total) (c .pre .0) (c .pre .2)
 
--- src/reserve.rt:44:1
 returns : tie.Need-returns
 returns c = search needs
 

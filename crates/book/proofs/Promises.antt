@@ -1,0 +1,236 @@
+-- What reading and opening promise of every book. Assumes nothing.
+use Prim.Native.Nat.{ℕ, zero, suc, _+_, _-_, _≤_, _<_}
+use mathlib.Core.Path.{_≡_, refl, sym, ap, _∙_, subst⁻¹}
+use mathlib.Core.Logic.{_↔_}
+use mathlib.Core.Bool.{true, not}
+use mathlib.Core.List.{List, []}
+use lib.ListN.{length, getD}
+use lib.Dec.{ltb}
+use lib.Signed.{nonNeg}
+use native.Mathlib.Omega.{arith}
+use borrow.Author.Tests.{eq-eqb, ne-eqb, ltb-false, not-false}
+use Rattle.laws.proofs.Cases.{by-eq}
+use Rattle.laws.proofs.Parts.{parts-nonNeg}
+use Rattle.laws.proofs.Signs.{below-pos}
+use Rattle.model.specs.declared.Aquifer.{Aquifer}
+use Rattle.model.specs.declared.Answer.the-variants.{Accepted, Refused as RefusedBy}
+use Rattle.model.specs.declared.Found.{Found}
+use Rattle.model.specs.declared.Found.the-variants.{At, Nothing}
+use Rattle.model.specs.Fresh.{freshBalance}
+use Rattle.model.specs.View.{viewOf}
+use Rattle.model.specs.Answers.{first}
+use Rattle.titles.specs.Adds.{titled}
+use Rattle.titles.proofs.Adding.{places-none}
+use Rattle.titles.specs.declared.Slot.{Slot}
+use Rattle.titles.specs.declared.Slot.the-variants.{Extraction, Exports, Imports, Returns, WellExtraction}
+use Rattle.river.specs.Flow.{flow}
+use Rattle.river.specs.Wells.{recharge}
+use Rattle.river.proofs.Firsts.{nothing-passed}
+use Rattle.runoff.proofs.Rounding.{natural-within}
+use Rattle.basin.specs.Sound.{sound}
+use Rattle.basin.proofs.Soundness.{UnitSound, AquiferSound, sound-of, fresh-sound}
+use Rattle.book.specs.declared.UnitRecord.{UnitRecord}
+use Rattle.book.specs.declared.Mark.{Mark}
+use Rattle.book.specs.declared.Mark.the-variants.{Un, Su, Pr, Af, Ac, Call, Unknown}
+use Rattle.book.specs.declared.Next.{Next}
+use Rattle.book.specs.declared.Next.the-variants.{Ends, Refused, Opens, Grows, Adds}
+use Rattle.book.specs.Bytes.{bits8, bits16, bits32}
+use Rattle.book.specs.Record.{markOf, unitRecord, aquiferRecord, unitOf, noUnit, isGauged}
+use Rattle.book.specs.Fault.{Closed, closingFault, unitFault, soilFault, rainFault, gaugeFault, aquiferFault}
+use Rattle.book.specs.Reading.{Description, lastUnit, balanceOf, gaugeOutsideAt, marked, next, Outcome, read, refused, faultAt, ended, readingFrom, reading, openedAs, opened}
+use Rattle.book.proofs.Facts.{Facts, Fine, WellFine, next-facts, through-unless, through-whole}
+use Rattle.book.proofs.Growing.{Good, good-start, good-unit, good-last, good-aquifer, all-closed}
+use Rattle.book.proofs.Finishing.{unit-at, well-at}
+use Rattle.book.proofs.Following.{from-ends, from-refused, from-opens, from-grows, from-adds}
+
+-- A record that goes on leaves its own offset behind and stays within the book.
+abbrev Onward : List ℕ → ℕ → Next → Type 0
+Onward s at Ends = Unit {0}
+Onward s at (Refused n p) = Unit {0}
+Onward s at (Opens u to) = (at < to) × (to ≤ length s)
+Onward s at (Grows u to) = (at < to) × (to ≤ length s)
+Onward s at (Adds a to) = (at < to) × (to ≤ length s)
+
+module _ (s : List ℕ) (at : ℕ) (u : UnitRecord) (units aquifers : ℕ) where
+  none : (n p : ℕ) → Onward s at (Refused n p)
+  none n p = tt
+
+  mark-onward : (m : Mark) → Onward s at (marked m s at u units aquifers)
+  mark-onward Un =
+      through-whole (Onward s at) none s at 31 _
+      (λ h. through-unless (Onward s at) none (closingFault units u) (u .at) _
+      (λ e. through-unless (Onward s at) none (unitFault units aquifers (unitRecord s at)) at _ (λ g. (omega arith, omega arith))))
+  mark-onward Su =
+      through-whole (Onward s at) none s at 8 _
+      (λ h. through-unless (Onward s at) none (soilFault units aquifers u (bits8 s (at + 2)) (bits8 s (at + 3)) (bits32 s (at + 4))) at _
+      (λ e. (omega arith, omega arith)))
+  mark-onward Pr =
+      through-whole (Onward s at) none s at 4 _
+      (λ h. through-unless (Onward s at) none (rainFault units aquifers u (bits16 s (at + 2))) at _ (λ e. (omega arith, omega arith)))
+  mark-onward Af =
+      through-whole (Onward s at) none s at 34 _
+      (λ h. through-unless (Onward s at) none (gaugeFault units aquifers u (gaugeOutsideAt s at)) at _ (λ e. (omega arith, omega arith)))
+  mark-onward Ac =
+      through-whole (Onward s at) none s at 22 _
+      (λ h. through-unless (Onward s at) none (closingFault units u) (u .at) _
+      (λ e. through-unless (Onward s at) none (aquiferFault aquifers (aquiferRecord s at)) at _ (λ g. (omega arith, omega arith))))
+  mark-onward Call = tt
+  mark-onward Unknown = tt
+
+  next-onward : Onward s at (next s at u units aquifers)
+  unfolding next
+  next-onward =
+      by-eq (length s - at) 0
+      (λ e. rw (eq-eqb (length s - at) 0 e) tt)
+      (λ e. rw (ne-eqb (length s - at) 0 e)
+      (by-eq (length s - at) 1
+      (λ g. rw (eq-eqb (length s - at) 1 g) tt)
+      (λ g. rw (ne-eqb (length s - at) 1 g) (mark-onward (markOf (bits8 s at) (bits8 s (at + 1)))))))
+
+-- What the record at an offset does to a description.
+abbrev nextOf : List ℕ → ℕ → Description → Next
+nextOf s at d = next s at (lastUnit d) (length (d .units)) (length (d .aquifers))
+
+-- One record more, where the rest is the same under both allowances.
+one-more : (f g : ℕ) (s : List ℕ) (at : ℕ) (d : Description)
+    → ((to : ℕ) (x : Description) → at < to → to ≤ length s → readingFrom f s to x ≡ readingFrom g s to x)
+    → (n : Next) → nextOf s at d ≡ n → Onward s at n → readingFrom (suc f) s at d ≡ readingFrom (suc g) s at d
+one-more f g s at d rest Ends e o = from-ends f s at d e ∙ sym (from-ends g s at d e)
+one-more f g s at d rest (Refused n p) e o = from-refused f s at d n p e ∙ sym (from-refused g s at d n p e)
+one-more f g s at d rest (Opens u to) e o = from-opens f s at d u to e ∙ rest to _ (o .0) (o .1) ∙ sym (from-opens g s at d u to e)
+one-more f g s at d rest (Grows u to) e o = from-grows f s at d u to e ∙ rest to _ (o .0) (o .1) ∙ sym (from-grows g s at d u to e)
+one-more f g s at d rest (Adds a to) e o = from-adds f s at d a to e ∙ rest to _ (o .0) (o .1) ∙ sym (from-adds g s at d a to e)
+
+-- Two allowances above the number of bytes that are left give the same.
+same-reading : (f g : ℕ) (s : List ℕ) (at : ℕ) (d : Description) → length s - at < f → length s - at < g
+    → readingFrom f s at d ≡ readingFrom g s at d
+same-reading zero g s at d h k = absurd (omega arith)
+same-reading (suc f) zero s at d h k = absurd (omega arith)
+same-reading (suc f) (suc g) s at d h k =
+    one-more f g s at d (λ to x a b. same-reading f g s to x (omega arith) (omega arith)) (nextOf s at d) refl
+    (next-onward s at (lastUnit d) (length (d .units)) (length (d .aquifers)))
+
+-- The allowance of records never runs out: reading with any larger allowance gives the same.
+pub enough-records : (s : List ℕ) (e : ℕ) → readingFrom (length s + 1 + e) s 0 (record { units = []; aquifers = [] }) ≡ reading s
+enough-records s e = same-reading (length s + 1 + e) (length s + 1) s 0 _ (omega arith) (omega arith)
+
+-- The balance that an outcome opens is sound.
+abbrev SoundAfter : Outcome → Type 0
+SoundAfter o = sound (viewOf (openedAs o .balance)) ≡ true
+
+-- A fine unit that closed, and that drains within the balance, is sound.
+unit-is-sound : (n k : ℕ) (u : UnitRecord) → Fine k u → Closed u → u .downstream ≤ n → UnitSound n k (unitOf u)
+unit-is-sound n k u f c h =
+    record {
+      extraction = f .extraction;
+      exports = f .exports;
+      imports = f .imports;
+      returns = f .returns;
+      evaporation = f .evaporation;
+      rise = f .storage .rise;
+      fall = f .storage .fall;
+      commitment = f .commitment;
+      runoff = natural-within (isGauged u) (u .years) (u .sum) (omega (arith, c .enough)) (c .mean);
+      onward = f .onward;
+      within = h;
+      outlet = f .inner;
+    }
+
+well-is-sound : (a : Aquifer) → WellFine a → AquiferSound a
+well-is-sound a f =
+    record {
+      rise = f .within .storage .rise;
+      fall = f .within .storage .fall;
+      natural = f .within .natural;
+      pumped = f .within .pumped;
+      committed = f .within .committed;
+      extraction = f .within .extraction;
+      recharged = parts-nonNeg (recharge a) (sym (below-pos (recharge a) (f .recharged)));
+    }
+
+-- What holds of a refusal and, where no unit is at fault, of the rest holds of both together.
+through-fault : (P : Outcome → Type 0) → ((n p : ℕ) → P (refused n p)) → (n : ℕ) (f : Found) (rest : Outcome) → (f ≡ Nothing → P rest)
+    → P (faultAt n f rest)
+through-fault P fails n (At j) rest k = fails n _
+through-fault P fails n Nothing rest k = k refl
+
+module _ (d : Description) (good : Good d) where
+  description-sound : closingFault (length (d .units)) (lastUnit d) ≡ 0
+      → first (length (d .units)) (λ j. ltb (length (d .units)) (getD (d .units) j noUnit .downstream)) ≡ Nothing
+      → first (length (d .units)) (λ j. not (nonNeg (flow (viewOf (balanceOf d)) j))) ≡ Nothing
+      → sound (viewOf (balanceOf d)) ≡ true
+  description-sound e m f =
+      sound-of (viewOf (balanceOf d))
+      (record {
+        few-units = good .few;
+        few-aquifers = good .many;
+        few-titles = omega arith;
+        unit = λ j h. subst⁻¹ (UnitSound (length (d .units)) j) (unit-at d good j h)
+            (unit-is-sound (length (d .units)) j _ (good .fine j h) (all-closed d good [] e j h) (ltb-false _ _ (nothing-passed _ _ m j h)));
+        aquifer = λ j h. subst⁻¹ AquiferSound (well-at d good j h) (well-is-sound _ (good .wells j h));
+        flowing = λ j h. not-false _ (nothing-passed _ _ f j h);
+        place = λ k h. absurd (omega arith);
+        covered = λ j h. record { extraction = nothing Extraction j _; exports = nothing Exports j _; imports = nothing Imports j _; returns = nothing Returns j _ };
+        well-covered = λ j h. nothing WellExtraction j _;
+      })
+    where
+      nothing : (t : Slot) (j x : ℕ) → titled (viewOf (balanceOf d)) 0 t j ≤ x
+      nothing t j x = omega (arith, places-none t j (viewOf (balanceOf d) .place))
+
+  ended-sound : (at : ℕ) → SoundAfter (ended d at)
+  ended-sound at =
+      by-eq (closingFault (length (d .units)) (lastUnit d)) 0
+      (λ e. rw (eq-eqb (closingFault (length (d .units)) (lastUnit d)) 0 e)
+      (through-fault SoundAfter (λ n p. fresh-sound) 8 _ _
+      (λ m. through-fault SoundAfter (λ n p. fresh-sound) 10 _ _ (λ f. description-sound e m f))))
+      (λ e. rw (ne-eqb (closingFault (length (d .units)) (lastUnit d)) 0 e) fresh-sound)
+
+-- One record more, where the rest is sound.
+one-sound : (f : ℕ) (s : List ℕ) (at : ℕ) (d : Description) → Good d
+    → ((to : ℕ) (x : Description) → to ≤ length s → Good x → SoundAfter (readingFrom f s to x))
+    → (n : Next) → nextOf s at d ≡ n → Facts s (lastUnit d) (length (d .units)) (length (d .aquifers)) n → SoundAfter (readingFrom (suc f) s at d)
+one-sound f s at d good rest Ends e t = subst⁻¹ SoundAfter (from-ends f s at d e) (ended-sound d good at)
+one-sound f s at d good rest (Refused n p) e t = subst⁻¹ SoundAfter (from-refused f s at d n p e) fresh-sound
+one-sound f s at d good rest (Opens u to) e t =
+    subst⁻¹ SoundAfter (from-opens f s at d u to e) (rest to _ (t .within) (good-unit d good s u to t))
+one-sound f s at d good rest (Grows u to) e t =
+    subst⁻¹ SoundAfter (from-grows f s at d u to e) (rest to _ (t .within) (good-last d good s u to t))
+one-sound f s at d good rest (Adds a to) e t =
+    subst⁻¹ SoundAfter (from-adds f s at d a to e) (rest to _ (t .within) (good-aquifer d good s a to t))
+
+reading-sound : (f : ℕ) (s : List ℕ) (at : ℕ) (d : Description) → at ≤ length s → Good d → SoundAfter (readingFrom f s at d)
+unfolding readingFrom
+reading-sound zero s at d h good = fresh-sound
+reading-sound (suc f) s at d h good =
+    one-sound f s at d good (reading-sound f s) (nextOf s at d) refl
+    (next-facts s at (lastUnit d) (length (d .units)) (length (d .aquifers)) h (good .sane))
+
+-- Opening never hands out a balance that falls under 0.
+pub opening-sound : (s : List ℕ) → sound (viewOf (opened s .balance)) ≡ true
+opening-sound s = reading-sound (length s + 1) s 0 (record { units = []; aquifers = [] }) (omega arith) good-start
+
+-- What opening a book answers: accepted exactly when reading ends with a description, with its balance and the offset where it ends;
+-- refused, the fresh balance.
+pub record OpensExactly (s : List ℕ) : Type 0 where
+  pub accepted : (opened s .answer ≡ Accepted) ↔ ((d : Description) × (at : ℕ) × (reading s ≡ read d at))
+  pub balance : (d : Description) (at : ℕ) → reading s ≡ read d at → opened s .balance ≡ balanceOf d
+  pub place : (d : Description) (at : ℕ) → reading s ≡ read d at → opened s .place ≡ at
+  pub fresh : (n : ℕ) → opened s .answer ≡ RefusedBy n → opened s .balance ≡ freshBalance
+
+accepted-read : (o : Outcome) → openedAs o .answer ≡ Accepted → (d : Description) × (at : ℕ) × (o ≡ read d at)
+accepted-read (read d at) e = (d, at, refl)
+accepted-read (refused n p) e = let z : _≡_ {A = ℕ} 0 1 = cc in absurd (omega arith)
+
+refused-fresh : (o : Outcome) (n : ℕ) → openedAs o .answer ≡ RefusedBy n → openedAs o .balance ≡ freshBalance
+refused-fresh (read d at) n e = let z : _≡_ {A = ℕ} 0 1 = cc in absurd (omega arith)
+refused-fresh (refused m p) n e = refl
+
+-- An opening is accepted exactly when reading ends with a description.
+pub accepted-exactly : (s : List ℕ) → OpensExactly s
+accepted-exactly s =
+    record {
+      accepted = (accepted-read (reading s), λ r. ap (λ (o : Outcome). openedAs o .answer) (r .2));
+      balance = λ d at e. ap (λ (o : Outcome). openedAs o .balance) e;
+      place = λ d at e. ap (λ (o : Outcome). openedAs o .place) e;
+      fresh = refused-fresh (reading s);
+    }

@@ -1,0 +1,68 @@
+-- The book of document 01 ("One book, printed") as bytes. Assumes nothing.
+use Prim.Native.Nat.{ℕ, zero, suc, _-_, _/_, _%_, _^_}
+use mathlib.Core.List.{List, [], _∷_, _++_}
+use lib.IntN.{ℤ, pos, negsuc}
+
+-- 16 and 32 bits, little-endian.
+abbrev pub bytes16 : ℕ → List ℕ
+bytes16 n = n % 256 ∷ n / 256 ∷ []
+
+abbrev pub bytes32 : ℕ → List ℕ
+bytes32 n = bytes16 (n % 65536) ++ bytes16 (n / 65536)
+
+-- 32 bits, signed.
+abbrev pub signedBytes32 : ℤ → List ℕ
+signedBytes32 (pos n) = bytes32 n
+signedBytes32 (negsuc n) = bytes32 (2 ^ 32 - suc n)
+
+-- A list so many times over.
+abbrev pub times : ℕ → List ℕ → List ℕ
+times zero s = []
+times (suc n) s = s ++ times n s
+
+-- UN: downstream unit, extraction and commitment, and 0 in all other entries.
+abbrev pub unitBytes : ℕ → ℕ → ℕ → List ℕ
+unitBytes downstream extraction commitment =
+    85 ∷ 78 ∷ downstream ∷ bytes32 extraction ++ times 5 (bytes32 0) ++ bytes32 commitment
+
+-- SU: cover, soil and hectares.
+abbrev pub soilBytes : ℕ → ℕ → ℕ → List ℕ
+soilBytes cover soil hectares = 83 ∷ 85 ∷ cover ∷ soil ∷ bytes32 hectares
+
+-- PR: one year's rain.
+abbrev pub rainBytes : ℕ → List ℕ
+rainBytes mm = 80 ∷ 82 ∷ bytes16 mm
+
+-- AC: storage change, natural, pumped and committed natural discharge, extraction already titled.
+abbrev pub aquiferBytes : ℤ → ℕ → ℕ → ℕ → ℕ → List ℕ
+aquiferBytes storage natural pumped committed extraction =
+    65 ∷ 67 ∷ signedBytes32 storage ++ bytes32 natural ++ bytes32 pumped ++ bytes32 committed ++ bytes32 extraction
+
+-- GU: unit, use and volume; GA: aquifer and volume; TA: aquifer, unit and volume.
+abbrev pub grantBytes : ℕ → ℕ → ℕ → List ℕ
+grantBytes unit usage volume = 71 ∷ 85 ∷ unit ∷ usage ∷ bytes32 volume
+
+abbrev pub wellGrantBytes : ℕ → ℕ → List ℕ
+wellGrantBytes aquifer volume = 71 ∷ 65 ∷ aquifer ∷ bytes32 volume
+
+abbrev pub wellTransferBytes : ℕ → ℕ → ℕ → List ℕ
+wellTransferBytes aquifer unit volume = 84 ∷ 65 ∷ aquifer ∷ unit ∷ bytes32 volume
+
+-- A unit of 10,000 ha of one cover and soil with twenty years of 800 mm.
+abbrev pub wholeUnit : ℕ → ℕ → ℕ → ℕ → ℕ → List ℕ
+wholeUnit downstream extraction commitment cover soil =
+    unitBytes downstream extraction commitment ++ soilBytes cover soil 10000 ++ times 20 (rainBytes 800)
+
+-- Units 1 and 2 drain to 3, an outlet with extraction 3000 and commitment 1000. Unit 1 has cover 14 soil 2; units 2 and 3 each cover 8
+-- soil 1. Aquifer: −200, 900, 1300, 500, 1300.
+unfoldable pub printedDescription : List ℕ
+printedDescription =
+    wholeUnit 3 0 0 14 2 ++ wholeUnit 3 0 0 8 1 ++ wholeUnit 0 3000 1000 8 1 ++ aquiferBytes (negsuc 199) 900 1300 500 1300
+
+-- Calls: GU 3 1 2000; GU 2 1 2000; GA 1 250; TA 1 3 200.
+unfoldable pub printedCalls : List ℕ
+printedCalls = grantBytes 3 1 2000 ++ grantBytes 2 1 2000 ++ wellGrantBytes 1 250 ++ wellTransferBytes 1 3 200
+
+-- The book: its description and then its calls.
+unfoldable pub printedBook : List ℕ
+printedBook = printedDescription ++ printedCalls
