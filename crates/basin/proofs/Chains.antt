@@ -2,7 +2,7 @@
 use Prim.Native.Nat.{ℕ, _≤_, _<_}
 use mathlib.Core.Path.{_≡_, refl, sym, _∙_}
 use mathlib.Core.Logic.{_⊎_, inl, inr}
-use mathlib.Core.Bool.{Bool, true, false, not, _&&_, _||_, true≢false}
+use mathlib.Core.Bool.{Bool, true, false, not, _&&_, _||_}
 use lib.Dec.{leb, eqb}
 use borrow.Author.Tests.{le-leb, lt-leb, eq-eqb, ne-eqb, not-true, not-false}
 
@@ -28,10 +28,6 @@ pub go-call : (s t x r : Bool) → s ≡ t → not s ≡ false → r ≡ x → r
 go-call s t x r e h g = go t x r (sym e ∙ not-false s h) g
 
 -- Both tests of a conjunction hold.
-pub both : (s t : Bool) → (s && t) ≡ true → (s ≡ true) × (t ≡ true)
-both true t e = (refl, e)
-both false t e = absurd (true≢false (sym e))
-
 pub both-hold : (s t : Bool) → s ≡ true → t ≡ true → (s && t) ≡ true
 both-hold s t e f = rw e f
 

@@ -18,7 +18,8 @@ use Rattle.model.specs.declared.Aquifer.{Aquifer}
 use Rattle.river.specs.Wells.{recharge}
 use Rattle.river.proofs.Aquifers.{recharge-is}
 use Rattle.basin.specs.Sound.{isStorage}
-use Rattle.basin.proofs.Chains.{stop-leb, go-leb, both, both-hold}
+use Rattle.basin.proofs.Chains.{stop-leb, go-leb, both-hold}
+use Rattle.laws.proofs.Every.{both}
 
 storage-low : (z : ℤ) → leZ (negℤ (pos termLimit)) z ≡ leb (below z) termLimit
 storage-low (pos n) = refl

@@ -20,11 +20,11 @@ use Rattle.model.specs.View.{View, viewOf, termLimit}
 use Rattle.river.specs.Flow.{flow, Ready}
 use Rattle.river.specs.Wells.{recharge}
 use Rattle.river.specs.Figures.{WellsReady}
-use Rattle.river.proofs.Firsts.{every-each, each-every}
 use Rattle.titles.specs.Adds.{titled}
 use Rattle.titles.specs.declared.Slot.the-variants.{Extraction, Exports, Imports, Returns, WellExtraction}
 use Rattle.basin.specs.Sound
-use Rattle.basin.proofs.Chains.{both, both-hold, either, first-holds, second-holds}
+use Rattle.laws.proofs.Every.{both, every-each, each-every}
+use Rattle.basin.proofs.Chains.{both-hold, either, first-holds, second-holds}
 use Rattle.basin.proofs.Ranges.{storage-within, within-storage}
 
 -- The unit at index j, of so many.

@@ -5,3 +5,4 @@ pub mod Gathering
 pub mod Arrays
 pub mod Splitting
 pub mod Chain
+pub mod Every

@@ -1,12 +1,13 @@
 -- What the early refusals leave: a title that can be put in, with entries that stay within the limit. Assumes nothing.
 use Prim.Native.Nat.{ℕ, suc, pred, _+_, _≤_, _<_}
 use mathlib.Core.Path.{_≡_, refl, sym, ap, subst, _∙_}
-use mathlib.Core.Bool.{Bool, true, false, cond, not, _&&_, _||_, true≢false}
+use mathlib.Core.Bool.{Bool, true, false, cond, not, _&&_, true≢false}
 use lib.Dec.{eqb, leb}
 use native.Mathlib.Omega.{arith}
 use borrow.Author.Tests.{ltb-false, leb-false, eq-eqb, ne-eqb}
 use Rattle.laws.specs.Sum.{naturals, only}
 use Rattle.laws.proofs.Cases.{by-eq}
+use Rattle.laws.proofs.Every.{both, neither}
 use Rattle.model.specs.declared.Unit.{Unit}
 use Rattle.model.specs.declared.Aquifer.{Aquifer}
 use Rattle.model.specs.declared.Title.{Title}
@@ -65,14 +66,6 @@ held false a n e = absurd (omega arith)
 passed : (t : Bool) (a n : ℕ) → cond t (suc n) a ≡ 0 → (t ≡ false) × (a ≡ 0)
 passed true a n e = absurd (omega arith)
 passed false a n e = (refl, e)
-
-both : (a b : Bool) → a && b ≡ true → (a ≡ true) × (b ≡ true)
-both true b e = (refl, e)
-both false b e = absurd (true≢false (sym e))
-
-neither : (a b : Bool) → a || b ≡ false → (a ≡ false) × (b ≡ false)
-neither true b e = absurd (true≢false e)
-neither false b e = (refl, e)
 
 -- What holds of a title that no early refusal meets.
 pub record Granting (v : View) (t : Title) : Type 0 where

@@ -20,7 +20,7 @@ use Rattle.titles.specs.declared.Slot.the-variants.{Extraction, Exports, Import
 use Rattle.titles.proofs.Adding.{places-more, places-same}
 use Rattle.river.specs.Flow.{flow, net, downstream, Ready}
 use Rattle.river.proofs.Flows.{net-parts}
-use Rattle.river.proofs.Firsts.{every-each}
+use Rattle.laws.proofs.Every.{every-each}
 use Rattle.basin.specs.Sound.{sound}
 use Rattle.basin.proofs.Soundness.{PlaceSound, Soundness, soundness, sound-of, ready-of}
 use Rattle.reach.specs.Reach.{outlet, sameBasin}

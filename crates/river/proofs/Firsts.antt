@@ -1,11 +1,12 @@
--- Laws of a test over the places below a number: the first at which it holds, and that it holds at every one. Assumes nothing.
+-- Laws of a test over the places below a number: the first at which it holds. Assumes nothing.
 use Prim.Native.Nat.{ℕ, zero, suc, _+_, _≤_, _<_}
 use mathlib.Core.Path.{_≡_, refl, sym, ap, _∙_}
-use mathlib.Core.Bool.{Bool, true, false, not, _&&_, and-false, true≢false}
+use mathlib.Core.Bool.{Bool, true, false, not}
 use native.Mathlib.Omega.{arith}
 use borrow.Author.Tests.{not-false}
 use Rattle.laws.specs.Sum.{every}
 use Rattle.laws.proofs.Cases.{by-bool, by-eq}
+use Rattle.laws.proofs.Every.{every-each, each-every}
 use Rattle.model.specs.Answers.{firstFrom, first}
 use Rattle.model.specs.declared.Found.the-variants.{At, Nothing}
 
@@ -73,34 +74,12 @@ module _ (t : ℕ → Bool) where
   nothing-passed n e k h = from-passed n 0 e k (omega arith) (omega arith)
 
 module _ (t : ℕ → Bool) where
-  -- The test holds at every place exactly where it holds at each.
-  pub every-each : (n : ℕ) → every n t ≡ true → (k : ℕ) → k < n → t k ≡ true
-  unfolding every
-  every-each zero e k h = absurd (omega arith)
-  every-each (suc n) e k h =
-      by-bool (t n)
-      (λ q. by-eq k n (λ g. ap t g ∙ q) (λ g. every-each n (left (every n t) (t n) e) k (omega arith)))
-      (λ q. absurd (true≢false (sym e ∙ ap (λ (x : Bool). every n t && x) q ∙ and-false (every n t))))
-    where
-      left : (a b : Bool) → (a && b) ≡ true → a ≡ true
-      left true b e = refl
-      left false b e = absurd (true≢false (sym e))
-
-  pub each-every : (n : ℕ) → ((k : ℕ) → k < n → t k ≡ true) → every n t ≡ true
-  unfolding every
-  each-every zero f = refl
-  each-every (suc n) f = rw (each-every n (λ k h. f k (omega arith))) (f n (omega arith))
-
-  -- One place at which it fails is enough.
-  pub every-fails : (n k : ℕ) → k < n → t k ≡ false → every n t ≡ false
-  every-fails n k h e = by-bool (every n t) (λ q. absurd (true≢false (sym (every-each n q k h) ∙ e))) (λ q. q)
-
   -- There is no first place at which it fails exactly where it holds at every place.
   pub nothing-every : (n : ℕ) → first n (λ k. not (t k)) ≡ Nothing → every n t ≡ true
-  nothing-every n e = each-every n (λ k h. not-false (t k) (nothing-passed (λ k. not (t k)) n e k h))
+  nothing-every n e = each-every t n (λ k h. not-false (t k) (nothing-passed (λ k. not (t k)) n e k h))
 
   pub every-nothing : (n : ℕ) → every n t ≡ true → first n (λ k. not (t k)) ≡ Nothing
-  every-nothing n e = first-nothing (λ k. not (t k)) n (λ k h. ap not (every-each n e k h))
+  every-nothing n e = first-nothing (λ k. not (t k)) n (λ k h. ap not (every-each t n e k h))
 
   pub at-fails : (n i : ℕ) → first n (λ k. not (t k)) ≡ At i → every n t ≡ false
   at-fails n i e =

@@ -7,7 +7,7 @@ use borrow.Author.Count.{below-none, below-more}
 use borrow.Author.Needs.{needs}
 use borrow.Author.Tests.{not-true, not-false}
 use Rattle.model.specs.View.{viewOf}
-use Rattle.river.proofs.Firsts.{each-every, every-fails}
+use Rattle.laws.proofs.Every.{each-every, every-fails}
 use Rattle.basin.specs.Sound.{soundUnit}
 use Rattle.basin.proofs.entries.units_sound.Statement.{statement}
 use Rattle.basin.proofs.entries.units_sound.Tie as tie

@@ -10,7 +10,7 @@ use borrow.Author.Tests.{le-leb, lt-leb}
 use Rattle.model.specs.View.{View, viewOf}
 use Rattle.titles.specs.Adds.{titled}
 use Rattle.titles.specs.declared.Slot.the-variants.{WellExtraction}
-use Rattle.river.proofs.Firsts.{each-every, every-fails}
+use Rattle.laws.proofs.Every.{each-every, every-fails}
 use Rattle.basin.specs.Sound.{coveredAquifer}
 use Rattle.basin.proofs.places.aquifers_covered.Statement.{statement}
 use Rattle.basin.proofs.places.aquifers_covered.Tie as tie

@@ -4,9 +4,9 @@ use mathlib.Core.Path.{sym, _∙_}
 use lib.Dec.{leb}
 use borrow.Author.Tests.{leb-true, not-false}
 use Rattle.model.specs.View.{View, viewOf}
-use Rattle.river.proofs.Firsts.{every-each}
+use Rattle.laws.proofs.Every.{both, every-each}
 use Rattle.basin.specs.Sound.{sound}
-use Rattle.basin.proofs.Chains.{chain, both}
+use Rattle.basin.proofs.Chains.{chain}
 use Rattle.basin.proofs.Soundness.{unit-sound, ready-of}
 use borrow.Author.Needs.{needs}
 use Rattle.basin.proofs.test.sound.Statement.{statement}

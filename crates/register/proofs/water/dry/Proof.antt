@@ -11,7 +11,7 @@ use Rattle.laws.proofs.Arrays.{getD-table}
 use Rattle.model.specs.View.{View, viewOf}
 use Rattle.river.specs.declared.UnitFigures.{UnitFigures}
 use Rattle.river.specs.Figures.{unitFigures, noUnitFigures, allUnitFigures}
-use Rattle.river.proofs.Firsts.{each-every, every-fails}
+use Rattle.laws.proofs.Every.{each-every, every-fails}
 use Rattle.reach.specs.Reach.{outlet, sameBasin}
 use Rattle.reach.specs.Passes.{Outlets}
 use Rattle.register.specs.Grant.{wanting}
