@@ -1,0 +1,100 @@
+//! Writes random books as files, or counts what the model makes of them.
+
+use std::collections::BTreeMap;
+use std::path::Path;
+use std::process::ExitCode;
+
+const USAGE: &str = "usage: books SEED COUNT DIR        writes SEED.book and the following
+       books SEED COUNT DIR --out  also writes what the program prints as SEED.out
+       books --tally SEED COUNT    counts replies instead";
+
+fn main() -> ExitCode {
+    let arguments: Vec<String> = std::env::args().skip(1).collect();
+    let words: Vec<&str> = arguments.iter().map(String::as_str).collect();
+    let done = match words.as_slice() {
+        ["--tally", seed, count] => seeds(seed, count).map(tally),
+        [seed, count, folder] => seeds(seed, count).and_then(|s| write(s, folder, false)),
+        [seed, count, folder, "--out"] => seeds(seed, count).and_then(|s| write(s, folder, true)),
+        _ => Err(USAGE.to_string()),
+    };
+    match done {
+        Ok(()) => ExitCode::SUCCESS,
+        Err(message) => {
+            eprintln!("{message}");
+            ExitCode::FAILURE
+        }
+    }
+}
+
+fn seeds(seed: &str, count: &str) -> Result<std::ops::Range<u64>, String> {
+    let seed: u64 = seed.parse().map_err(|_| USAGE.to_string())?;
+    let count: u64 = count.parse().map_err(|_| USAGE.to_string())?;
+    let end = seed.checked_add(count).ok_or_else(|| USAGE.to_string())?;
+    Ok(seed..end)
+}
+
+fn write(seeds: std::ops::Range<u64>, folder: &str, with_out: bool) -> Result<(), String> {
+    let folder = Path::new(folder);
+    let fault = |error: std::io::Error| error.to_string();
+    std::fs::create_dir_all(folder).map_err(fault)?;
+    for seed in seeds {
+        let book = reference::random::book(seed);
+        std::fs::write(folder.join(format!("{seed}.book")), &book).map_err(fault)?;
+        if with_out {
+            let out = reference::run(&book);
+            std::fs::write(folder.join(format!("{seed}.out")), out).map_err(fault)?;
+        }
+    }
+    Ok(())
+}
+
+/// Counts descriptions and calls by reply.
+fn tally(seeds: std::ops::Range<u64>) {
+    let mut books: BTreeMap<String, usize> = BTreeMap::new();
+    let mut calls: BTreeMap<String, usize> = BTreeMap::new();
+    let mut records: BTreeMap<String, usize> = BTreeMap::new();
+    let mut bytes = 0;
+    for seed in seeds {
+        let book = reference::random::book(seed);
+        bytes += book.len();
+        let printed = String::from_utf8(reference::run(&book)).expect("the output is ASCII");
+        *books.entry(kind_of_book(&book)).or_insert(0) += 1;
+        for line in printed.lines() {
+            let words: Vec<&str> = line.split(' ').collect();
+            match words.as_slice() {
+                ["call", _, "refused", number] => {
+                    *calls.entry(format!("refused {number:>2}")).or_insert(0) += 1
+                }
+                ["call", _, reply, _] => *calls.entry(reply.to_string()).or_insert(0) += 1,
+                ["refused", number, ..] if reference::book::open(&book).is_ok() => {
+                    *records.entry(format!("refused {number:>2}")).or_insert(0) += 1
+                }
+                _ => {}
+            }
+        }
+    }
+    println!("bytes {bytes}");
+    for (title, counts) in [
+        ("descriptions", books),
+        ("calls", calls),
+        (
+            "call records or lengths refused after an accepted description",
+            records,
+        ),
+    ] {
+        println!("{title}: {}", counts.values().sum::<usize>());
+        for (reply, count) in counts {
+            println!("  {reply:<12} {count}");
+        }
+    }
+}
+
+fn kind_of_book(book: &[u8]) -> String {
+    if book.len() > reference::LONGEST_BOOK {
+        return "refused 21".to_string();
+    }
+    match reference::book::open(book) {
+        Ok(_) => "accepted".to_string(),
+        Err(refusal) => format!("refused {:>2}", refusal.number),
+    }
+}

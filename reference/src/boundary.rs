@@ -1,0 +1,534 @@
+//! Named books at the limits of the paper and at the places where each refusal can arise.
+
+use crate::record::{self, Mark};
+use crate::{text, LONGEST_BOOK};
+
+/// A named book.
+pub struct Named {
+    pub name: String,
+    pub book: Vec<u8>,
+}
+
+/// A unit of forest whose natural runoff is 1540.
+const FOREST: &str = "unit; soil cover=8 soil=1 hectares=10000; rain 800 x20";
+/// Areas and years that follow a unit line and give 1540.
+const RAIN: &str = "soil cover=8 soil=1 hectares=10000; rain 800 x20";
+/// An aquifer with a recharge of 90.
+const AQUIFER: &str = "aquifer storage=-10 natural=60 pumped=40 extraction=20";
+
+/// The bytes of a text whose lines are separated by semicolons.
+fn b(text: &str) -> Vec<u8> {
+    match text::make(&text.replace(';', "\n")) {
+        Ok(book) => book,
+        Err(fault) => panic!("{text}: {fault}"),
+    }
+}
+
+/// All named books, in the order in which they are made.
+pub fn books() -> Vec<Named> {
+    let mut list = List(Vec::new());
+    whole_books(&mut list);
+    runoff_cases(&mut list);
+    year_counts(&mut list);
+    rain_values(&mut list);
+    areas(&mut list);
+    counts(&mut list);
+    unit_fields(&mut list);
+    gauge_fields(&mut list);
+    aquifer_fields(&mut list);
+    downstream_numbers(&mut list);
+    flows(&mut list);
+    sequence(&mut list);
+    short_records(&mut list);
+    unknown_marks(&mut list);
+    call_marks(&mut list);
+    lengths(&mut list);
+    list.0
+}
+
+struct List(Vec<Named>);
+
+impl List {
+    fn add(&mut self, name: &str, book: Vec<u8>) {
+        self.0.push(Named {
+            name: name.to_string(),
+            book,
+        });
+    }
+
+    fn text(&mut self, name: &str, text: &str) {
+        self.add(name, b(text));
+    }
+}
+
+fn whole_books(list: &mut List) {
+    list.text("empty", "");
+    for (name, text) in [
+        ("listing", include_str!("../../examples/listing.txt")),
+        ("rio-bravo", include_str!("../../examples/rio-bravo.txt")),
+        ("cuenca", include_str!("../../examples/cuenca.txt")),
+    ] {
+        list.add(name, text::make(text).expect("the example is well formed"));
+    }
+    list.text("aquifer-alone", AQUIFER);
+    list.text("calls-alone", "withdraw unit=1 use=1 volume=5; cancel 1");
+}
+
+/// The cases (a) to (e); (f) is the listing.
+fn runoff_cases(list: &mut List) {
+    list.text(
+        "case-a",
+        "unit; soil cover=14 soil=2 hectares=10000; rain 800 x20",
+    );
+    list.text("case-b", FOREST);
+    list.text(
+        "case-c",
+        "unit; soil cover=8 soil=1 hectares=10000; rain 400 x10; rain 1200 x10",
+    );
+    list.text(
+        "case-d",
+        "unit; soil cover=8 soil=1 hectares=8; soil cover=9 soil=1 hectares=2; rain 500 x20",
+    );
+    list.text(
+        "case-e",
+        "unit; soil cover=8 soil=1 hectares=1; soil cover=9 soil=1 hectares=6; rain 500 x20",
+    );
+}
+
+fn year_counts(list: &mut List) {
+    for years in [19, 20, 50, 51] {
+        let rain = format!("unit; soil cover=8 soil=1 hectares=10000; rain 800 x{years}");
+        list.text(&format!("rain-years-{years}"), &rain);
+        let gauged = format!("unit; gauge outflow=70 inflow=20 x{years}");
+        list.text(&format!("gauged-years-{years}"), &gauged);
+    }
+    let few = "unit; soil cover=8 soil=1 hectares=10000; rain 800 x19";
+    list.text("rain-years-19-second", &format!("{FOREST}; {few}"));
+    list.text("rain-years-19-then-unit", &format!("{few}; {FOREST}"));
+    list.text(
+        "rain-years-19-then-bad-unit",
+        &format!("{few}; unit exports=10000001"),
+    );
+    list.text("rain-years-19-then-aquifer", &format!("{few}; {AQUIFER}"));
+    list.text(
+        "rain-years-19-then-bad-aquifer",
+        &format!("{few}; aquifer storage=-1"),
+    );
+    list.text("rain-years-19-then-call", &format!("{few}; cancel 1"));
+    list.add("rain-years-19-then-short-unit", join(few, b"UN"));
+    list.add("rain-years-19-then-short-call", join(few, b"GU"));
+    list.add("rain-years-19-then-unknown", join(few, b"XX"));
+    list.text(
+        "rain-years-51-bad",
+        &format!("{FOREST}; rain 800 x30; rain 349"),
+    );
+    list.text("unit-without-records", "unit");
+    list.text("unit-without-years", "unit; soil cover=8 soil=1 hectares=5");
+}
+
+fn rain_values(list: &mut List) {
+    for rain in [0, 349, 350, 2150, 2151] {
+        let all = format!("unit; soil cover=14 soil=2 hectares=10000; rain {rain} x20");
+        list.text(&format!("rain-{rain}"), &all);
+    }
+    for rain in [349, 2151] {
+        let last = format!("unit; soil cover=14 soil=2 hectares=10000; rain 800 x19; rain {rain}");
+        list.text(&format!("rain-{rain}-last"), &last);
+    }
+}
+
+fn areas(list: &mut List) {
+    for hectares in [0, 300_000, 300_001, u32::MAX] {
+        let book = format!("unit; soil cover=13 soil=3 hectares={hectares}; rain 2150 x20");
+        list.text(&format!("hectares-{hectares}"), &book);
+    }
+    for second in [100_000, 100_001, 300_001] {
+        let book = format!(
+            "unit; soil cover=13 soil=3 hectares=200000; soil cover=8 soil=1 hectares={second}; rain 800 x20"
+        );
+        list.text(&format!("hectares-sum-200000-{second}"), &book);
+    }
+    for (cover, soil) in [(0, 1), (14, 3), (15, 1), (1, 0), (1, 4)] {
+        let book = format!("unit; soil cover={cover} soil={soil} hectares=100; rain 800 x20");
+        list.text(&format!("cover-{cover}-soil-{soil}"), &book);
+    }
+    for (name, pasture, forest) in [("below", 500, 400), ("at", 500, 500), ("above", 400, 500)] {
+        let areas = format!(
+            "soil cover=5 soil=1 hectares={pasture}; soil cover=8 soil=2 hectares={forest}"
+        );
+        list.text(
+            &format!("k-{name}-15"),
+            &format!("unit; {areas}; rain 800 x20"),
+        );
+    }
+}
+
+fn repeated(text: &str, times: usize) -> String {
+    vec![text; times].join(";")
+}
+
+fn counts(list: &mut List) {
+    let area = "soil cover=8 soil=1 hectares=625";
+    for count in [16, 17] {
+        let areas = repeated(area, count);
+        list.text(
+            &format!("areas-{count}"),
+            &format!("unit; {areas}; rain 800 x20"),
+        );
+    }
+    let areas = repeated(area, 16);
+    list.text(
+        "areas-17-bad",
+        &format!("unit; {areas}; soil; rain 800 x20"),
+    );
+    list.text(
+        "areas-17-after-year",
+        &format!("unit; {areas}; rain 800; {area}"),
+    );
+    for count in [64, 65] {
+        list.text(&format!("units-{count}"), &repeated(FOREST, count));
+    }
+    let full = repeated(FOREST, 64);
+    list.text(
+        "units-65-bad",
+        &format!("{full}; unit downstream=1 storage=10000001"),
+    );
+    let mut river = String::new();
+    for number in 1..=63 {
+        river += &format!("unit downstream={}; {RAIN};", number + 1);
+    }
+    list.text(
+        "units-64-river",
+        &format!("{river} unit commitment=50000; {RAIN}"),
+    );
+    for count in [32, 33] {
+        list.text(&format!("aquifers-{count}"), &repeated(AQUIFER, count));
+    }
+    let full = repeated(AQUIFER, 32);
+    list.text(
+        "aquifers-33-negative",
+        &format!("{full}; aquifer storage=-1"),
+    );
+}
+
+fn unit_fields(list: &mut List) {
+    let at_limit = "extraction=10000000 exports=10000000 imports=10000000 returns=10000000 evaporation=10000000 storage=-10000000 commitment=10000000";
+    list.text("unit-terms-largest", &format!("unit {at_limit}; {RAIN}"));
+    list.text(
+        "unit-storage-largest",
+        &format!("unit storage=10000000 imports=10000000; {RAIN}"),
+    );
+    for entry in [
+        "extraction",
+        "exports",
+        "imports",
+        "returns",
+        "evaporation",
+        "storage",
+        "commitment",
+    ] {
+        let book = format!("unit {entry}=10000001; {RAIN}");
+        list.text(&format!("unit-{entry}-over"), &book);
+    }
+    list.text(
+        "unit-storage-under",
+        &format!("unit storage=-10000001; {RAIN}"),
+    );
+    list.text(
+        "unit-storage-least",
+        &format!("unit storage=-2147483648; {RAIN}"),
+    );
+    let inner = format!("unit downstream=2 commitment=1; {RAIN}; {FOREST}");
+    list.text("commitment-inside", &inner);
+    list.text(
+        "commitment-inside-and-upward",
+        &format!("unit downstream=1 commitment=1; {RAIN}"),
+    );
+    list.text("deficit", &format!("unit commitment=1541; {RAIN}"));
+}
+
+fn gauge_fields(list: &mut List) {
+    list.text(
+        "gauge-flows-largest",
+        "unit; gauge outflow=2000000000 inflow=2000000000 x20",
+    );
+    list.text(
+        "gauge-outflow-over",
+        "unit; gauge outflow=2000000001 inflow=2000000000 x20",
+    );
+    list.text(
+        "gauge-inflow-over",
+        "unit; gauge outflow=2000000000 inflow=2000000001 x20",
+    );
+    list.text(
+        "gauge-terms-largest",
+        "unit; gauge outflow=5 extraction=10000000 exports=10000000 imports=10000000 returns=10000000 evaporation=10000000 storage=-10000000 x20",
+    );
+    for entry in [
+        "extraction",
+        "exports",
+        "imports",
+        "returns",
+        "evaporation",
+        "storage",
+    ] {
+        let book = format!("unit; gauge outflow=10000001 x19; gauge {entry}=10000001");
+        list.text(&format!("gauge-{entry}-over"), &book);
+    }
+    list.text(
+        "gauge-storage-under",
+        "unit; gauge outflow=10000001 x19; gauge storage=-10000001",
+    );
+    for sum in [0, 9, 10] {
+        let book = format!("unit; gauge x19; gauge outflow={sum}");
+        list.text(&format!("gauged-sum-{sum}-of-20"), &book);
+    }
+    list.text(
+        "gauged-sum-negative",
+        "unit; gauge outflow=5 x19; gauge inflow=96",
+    );
+    list.text("gauged-sum-negative-19", "unit; gauge inflow=5 x19");
+    list.text(
+        "gauged-sum-negative-second",
+        &format!("{FOREST}; unit; gauge inflow=1 x20; {AQUIFER}"),
+    );
+    list.text("gauged-sum-largest", "unit; gauge outflow=10000000 x20");
+    list.text(
+        "gauged-sum-over",
+        "unit; gauge outflow=10000000 x19; gauge outflow=10000001",
+    );
+    list.text(
+        "gauged-year-over",
+        "unit; gauge x19; gauge outflow=200000000",
+    );
+}
+
+fn aquifer_fields(list: &mut List) {
+    let at_limit =
+        "storage=10000000 natural=10000000 pumped=10000000 committed=10000000 extraction=10000000";
+    list.text("aquifer-terms-largest", &format!("aquifer {at_limit}"));
+    for entry in ["storage", "natural", "pumped", "committed", "extraction"] {
+        list.text(
+            &format!("aquifer-{entry}-over"),
+            &format!("aquifer {entry}=10000001"),
+        );
+    }
+    list.text(
+        "aquifer-storage-least",
+        "aquifer storage=-10000000 natural=10000000",
+    );
+    list.text(
+        "aquifer-storage-under",
+        "aquifer storage=-10000001 natural=10000000 pumped=5",
+    );
+    list.text("recharge-0", "aquifer storage=-7 natural=3 pumped=4");
+    list.text("recharge-negative", "aquifer storage=-8 natural=3 pumped=4");
+    list.text(
+        "recharge-negative-second",
+        &format!("{FOREST}; {AQUIFER}; aquifer storage=-1"),
+    );
+}
+
+fn downstream_numbers(list: &mut List) {
+    list.text("downstream-itself", &format!("unit downstream=1; {RAIN}"));
+    list.text(
+        "downstream-itself-second",
+        &format!("{FOREST}; unit downstream=2; {RAIN}"),
+    );
+    list.text(
+        "downstream-lower",
+        &format!("{FOREST}; unit downstream=1; {RAIN}"),
+    );
+    list.text(
+        "downstream-missing",
+        &format!("{FOREST}; unit downstream=3; {RAIN}"),
+    );
+    list.text("downstream-255", &format!("unit downstream=255; {RAIN}"));
+    list.text(
+        "downstream-missing-twice",
+        &format!("{FOREST}; unit downstream=9; {RAIN}; unit downstream=4; {RAIN}"),
+    );
+    list.text(
+        "downstream-missing-and-flow-negative",
+        &format!("unit exports=1541; {RAIN}; unit downstream=3; {RAIN}"),
+    );
+    list.text(
+        "downstream-missing-then-recharge-negative",
+        &format!("unit downstream=2; {RAIN}; aquifer storage=-1"),
+    );
+}
+
+fn flows(list: &mut List) {
+    list.text("flow-0", &format!("unit extraction=1540; {RAIN}"));
+    list.text("flow-negative", &format!("unit extraction=1541; {RAIN}"));
+    list.text(
+        "flow-negative-above",
+        &format!("unit downstream=2 exports=1541; {RAIN}; unit imports=100; {RAIN}"),
+    );
+    list.text(
+        "flow-negative-below",
+        &format!("unit downstream=2; {RAIN}; unit evaporation=3081; {RAIN}"),
+    );
+    list.text(
+        "flow-negative-twice",
+        &format!("{FOREST}; unit exports=2000; {RAIN}; unit exports=3000; {RAIN}"),
+    );
+    list.text(
+        "flow-negative-then-call",
+        &format!("unit extraction=1541; {RAIN}; cancel 1"),
+    );
+    list.text(
+        "total-0",
+        "unit storage=-100 extraction=30 commitment=20; gauge x20",
+    );
+    list.text(
+        "total-0-above",
+        "unit downstream=2; gauge x20; unit storage=-100 extraction=30 commitment=20; gauge x20",
+    );
+    list.text(
+        "shares-thirds",
+        "unit downstream=3; gauge outflow=1 x20; unit downstream=3; gauge outflow=1 x20; unit commitment=2; gauge outflow=1 x20",
+    );
+}
+
+fn sequence(list: &mut List) {
+    let soil = "soil cover=8 soil=1 hectares=100";
+    for (name, record) in [
+        ("soil", soil),
+        ("rain", "rain 800"),
+        ("gauge", "gauge outflow=5"),
+    ] {
+        list.text(&format!("{name}-first"), record);
+        list.text(
+            &format!("{name}-after-aquifer"),
+            &format!("{FOREST}; {AQUIFER}; {record}"),
+        );
+    }
+    list.text(
+        "unit-after-aquifer",
+        &format!("{FOREST}; {AQUIFER}; {FOREST}"),
+    );
+    list.text("unit-after-aquifer-alone", &format!("{AQUIFER}; {FOREST}"));
+    list.text("soil-after-rain", &format!("{FOREST}; {soil}"));
+    list.text(
+        "soil-after-gauge",
+        &format!("unit; gauge outflow=5 x20; {soil}"),
+    );
+    list.text("rain-without-soil", "unit; rain 800 x20");
+    list.text("rain-after-gauge", "unit; gauge outflow=5 x20; rain 800");
+    list.text(
+        "gauge-after-soil",
+        &format!("unit; {soil}; gauge outflow=5 x20"),
+    );
+    list.text("gauge-after-rain", &format!("{FOREST}; gauge outflow=5"));
+    list.text(
+        "unit-after-aquifer-bad",
+        &format!("{AQUIFER}; unit exports=10000001"),
+    );
+}
+
+/// The bytes of a text followed by other bytes.
+fn join(text: &str, bytes: &[u8]) -> Vec<u8> {
+    let mut book = b(text);
+    book.extend(bytes);
+    book
+}
+
+/// A record of zeros without its last `missing` bytes.
+fn short(mark: Mark, missing: usize) -> Vec<u8> {
+    let mut bytes = mark.letters().to_vec();
+    bytes.resize(2 + mark.body_length() - missing, 0);
+    bytes
+}
+
+const DESCRIPTION_MARKS: [(Mark, &str); 5] = [
+    (Mark::Unit, "unit"),
+    (Mark::Soil, "soil"),
+    (Mark::Rain, "rain"),
+    (Mark::Gauge, "gauge"),
+    (Mark::Aquifer, "aquifer"),
+];
+
+const CALL_MARKS: [(Mark, &str); 5] = [
+    (Mark::Withdraw, "withdraw"),
+    (Mark::Pump, "pump"),
+    (Mark::Transfer, "transfer"),
+    (Mark::Bring, "bring"),
+    (Mark::Cancel, "cancel"),
+];
+
+fn short_records(list: &mut List) {
+    for (mark, word) in DESCRIPTION_MARKS {
+        let body = mark.body_length();
+        list.add(&format!("short-{word}"), short(mark, body));
+        list.add(
+            &format!("short-{word}-after-unit"),
+            join(FOREST, &short(mark, 1)),
+        );
+    }
+    list.add("short-unit-after-aquifer", join(AQUIFER, b"UN"));
+    list.add("short-aquifer-after-aquifer", join(AQUIFER, b"AC"));
+    list.add("lone-byte", b"U".to_vec());
+    list.add("lone-byte-of-call", b"G".to_vec());
+    list.add("lone-byte-in-unit", join("unit", b"S"));
+    list.add("lone-byte-after-unit", join(FOREST, b"U"));
+    list.add("lone-byte-after-aquifer", join(AQUIFER, b"\0"));
+    list.add(
+        "lone-byte-after-call",
+        join(&format!("{FOREST}; cancel 1"), b"C"),
+    );
+}
+
+fn unknown_marks(list: &mut List) {
+    list.add("unknown-mark", b"XX".to_vec());
+    list.add("unknown-mark-lowercase", b"un".to_vec());
+    list.add("unknown-mark-in-unit", join("unit", b"NU"));
+    list.add("unknown-mark-after-unit", join(FOREST, b"UM"));
+    list.add("unknown-mark-after-aquifer", join(AQUIFER, b"AA"));
+    list.add(
+        "unknown-mark-after-call",
+        join(&format!("{FOREST}; cancel 1"), b"XX"),
+    );
+}
+
+fn call_marks(list: &mut List) {
+    for (mark, word) in CALL_MARKS {
+        list.add(
+            &format!("short-{word}-after-unit"),
+            join(FOREST, &short(mark, 1)),
+        );
+    }
+    list.add("short-withdraw-alone", b"GU".to_vec());
+    list.add("short-cancel-alone", b"CA\x01".to_vec());
+    list.add("short-call-after-bare-unit", join("unit", b"GU"));
+    let negative = format!("unit extraction=1541; {RAIN}");
+    list.add("short-call-after-negative-flow", join(&negative, b"CA"));
+    list.text("unit-after-call", &format!("{FOREST}; cancel 1; {FOREST}"));
+    list.text("aquifer-after-call", &format!("cancel 1; {AQUIFER}"));
+    list.add(
+        "short-unit-after-call",
+        join(&format!("{FOREST}; cancel 1"), b"UN"),
+    );
+}
+
+/// A book of exactly this length: a unit, an aquifer and refused calls.
+fn book_of_length(length: usize) -> Vec<u8> {
+    let mut book = join(FOREST, &b(AQUIFER));
+    while !(length - book.len()).is_multiple_of(4) {
+        book.extend(b("pump aquifer=2 volume=1"));
+    }
+    while book.len() < length {
+        book.extend(b("cancel 1"));
+    }
+    book
+}
+
+fn lengths(list: &mut List) {
+    list.add("bytes-65536", book_of_length(LONGEST_BOOK));
+    list.add("bytes-65537", book_of_length(LONGEST_BOOK + 1));
+}
+
+/// Whether the bytes are whole records.
+pub fn is_well_formed(book: &[u8]) -> bool {
+    record::records_of(book).is_ok()
+}
