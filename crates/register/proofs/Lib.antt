@@ -4,3 +4,5 @@ pub mod Granting
 pub mod Posting
 pub mod Replies
 pub mod Staying
+pub mod Cancelling
+pub mod Leaving

@@ -54,7 +54,7 @@ unpumped t k a e = λ i.
     }
 
 -- The place of a number, and another place.
-other : (u k : ℕ) → 0 < u → (k ≡ pred u → ⊥) → u ≡ suc k → ⊥
+pub other : (u k : ℕ) → 0 < u → (k ≡ pred u → ⊥) → u ≡ suc k → ⊥
 other u k h n e = n (omega arith)
 
 -- One place of an array raised: there it is raised, elsewhere it stays.
@@ -107,8 +107,9 @@ well-posted v (AquiferTransfer a u x) ws k l n =
     one-raised (raisedAquifer (AquiferTransfer a u x)) emptyAquifer ws a k (n .0) (omega (arith, n .1))
     (λ j e b. unpumped (AquiferTransfer a u x) j b (elsewhere a j x e))
 
-place-posted : (ps : List Place) (n k : ℕ) (p : Place) → n < length ps → getD (set ps n p) k emptyPlace ≡ cond (eqb k n) p (getD ps k emptyPlace)
-place-posted ps n k p h =
+-- One place of the register set.
+pub place-set : (ps : List Place) (n k : ℕ) (p : Place) → n < length ps → getD (set ps n p) k emptyPlace ≡ cond (eqb k n) p (getD ps k emptyPlace)
+place-set ps n k p h =
     by-eq k n
     (λ e. rw (eq-eqb k n e, e) (getD-set-same ps n p emptyPlace h))
     (λ e. rw (ne-eqb k n e) (getD-set-other ps n k p emptyPlace e))
@@ -124,5 +125,5 @@ posted-view b t s g = λ i.
       aquifers = b .«aquifer_count»;
       aquifer = λ k. well-posted (viewOf b) t (b .aquifers) k (omega (arith, s .aquifers, g .aquifers)) (g .named) i;
       given = next (b .given) i;
-      place = λ k. place-posted (b .titles) (b .given) k (record { title = t; «in_force» = true }) (omega (arith, s .titles, g .room)) i;
+      place = λ k. place-set (b .titles) (b .given) k (record { title = t; «in_force» = true }) (omega (arith, s .titles, g .room)) i;
     }

@@ -149,7 +149,7 @@ abbrev is-accepted : Answer → Bool
 is-accepted Accepted = true
 is-accepted (Refused n) = false
 
-not-refused : (n : ℕ) (r : Reply) → r .answer ≡ Refused n → r .answer ≡ Accepted → ⊥
+pub not-refused : (n : ℕ) (r : Reply) → r .answer ≡ Refused n → r .answer ≡ Accepted → ⊥
 not-refused n r e a = true≢false (sym (ap is-accepted a) ∙ ap is-accepted e)
 
 -- GU, GA, TU and TA: an accepted call never hands out a balance that falls under 0.

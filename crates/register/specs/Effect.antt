@@ -1,6 +1,6 @@
 -- The parts of what a title does. Assumes nothing.
-use Prim.Native.Nat.{ℕ, _+_}
-use mathlib.Core.Bool.{true}
+use Prim.Native.Nat.{ℕ, _+_, _-_}
+use mathlib.Core.Bool.{true, false}
 use lib.ListN.{set}
 use Rattle.model.specs.declared.Unit.{Unit}
 use Rattle.model.specs.declared.Aquifer.{Aquifer}
@@ -60,6 +60,59 @@ pumped a volume =
       extraction = a .extraction + volume;
     }
 
+-- The same taken back.
+abbrev pub unwithdrawn : Unit → ℕ → ℕ → Unit
+unwithdrawn u volume back =
+    record {
+      downstream = u .downstream;
+      extraction = u .extraction - volume;
+      exports = u .exports;
+      imports = u .imports;
+      returns = u .returns - back;
+      evaporation = u .evaporation;
+      storage = u .storage;
+      commitment = u .commitment;
+      runoff = u .runoff;
+    }
+
+abbrev pub unexported : Unit → ℕ → Unit
+unexported u volume =
+    record {
+      downstream = u .downstream;
+      extraction = u .extraction;
+      exports = u .exports - volume;
+      imports = u .imports;
+      returns = u .returns;
+      evaporation = u .evaporation;
+      storage = u .storage;
+      commitment = u .commitment;
+      runoff = u .runoff;
+    }
+
+abbrev pub unimported : Unit → ℕ → Unit
+unimported u volume =
+    record {
+      downstream = u .downstream;
+      extraction = u .extraction;
+      exports = u .exports;
+      imports = u .imports - volume;
+      returns = u .returns;
+      evaporation = u .evaporation;
+      storage = u .storage;
+      commitment = u .commitment;
+      runoff = u .runoff;
+    }
+
+abbrev pub unpumped : Aquifer → ℕ → Aquifer
+unpumped a volume =
+    record {
+      storage = a .storage;
+      natural = a .natural;
+      pumped = a .pumped;
+      committed = a .committed;
+      extraction = a .extraction - volume;
+    }
+
 -- The balance with a unit, or an aquifer, at an index.
 abbrev pub withUnit : Balance → ℕ → Unit → Balance
 withUnit b k u =
@@ -93,4 +146,16 @@ entered b t =
       «aquifer_count» = b .«aquifer_count»;
       titles = set (b .titles) (b .given) (record { title = t; «in_force» = true });
       given = b .given + 1;
+    }
+
+-- The balance with a title at an index of the register, out of force.
+abbrev pub left : Balance → ℕ → Title → Balance
+left b k t =
+    record {
+      units = b .units;
+      «unit_count» = b .«unit_count»;
+      aquifers = b .aquifers;
+      «aquifer_count» = b .«aquifer_count»;
+      titles = set (b .titles) k (record { title = t; «in_force» = false });
+      given = b .given;
     }

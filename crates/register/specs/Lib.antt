@@ -3,3 +3,4 @@ pub mod Grant
 pub mod Reply
 pub mod Steps
 pub mod Effect
+pub mod Cancel

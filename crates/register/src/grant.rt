@@ -1,15 +1,15 @@
 // Granting a title: the test for 0, the early refusals, and 17 with the title in.
 ghost use mathlib.Core.Path.{_≡_};
 ghost use mathlib.Core.Bool.{true};
-ghost use lib.ListN.{length};
 ghost use Rattle.model.specs.View.{viewOf};
-ghost use Rattle.model.specs.Answers.{number};
 ghost use Rattle.model.specs.declared.Title.the-variants.{UnitWithdrawal, AquiferWithdrawal, UnitTransfer, AquiferTransfer};
 ghost use Rattle.basin.specs.Sound as sounds;
 ghost use Rattle.register.specs.Reply as replies;
 ghost use Rattle.register.specs.Steps as steps;
 use crate::Reply;
 use crate::effect::post;
+use crate::outcome::refused;
+use crate::outcome::sized;
 use crate::refusal::early;
 use crate::water::no_water;
 use model::Answer;
@@ -18,34 +18,6 @@ use model::Balance;
 use model::Place;
 use model::Title;
 use model::Unit;
-
-// Three arrays have their full length.
-fn lengths(units: [Unit; 64], aquifers: [Aquifer; 32], titles: [Place; 256]) -> bool
-    ensures { λ r. ⌜ (length units ≡ 64) × (length aquifers ≡ 32) × (length titles ≡ 256) ⌝ }
-{
-    true
-}
-
-// The arrays of a balance have their full length.
-fn sized(b: Balance) -> bool
-    ensures { λ r. ⌜ steps.Sized b ⌝ }
-{
-    let units = b.units;
-    let aquifers = b.aquifers;
-    let titles = b.titles;
-    lengths(units, aquifers, titles)
-}
-
-// A refused call hands back the old balance, and 0 as the title's number.
-fn refused(b: Balance, code: u8) -> Reply
-    ensures { λ r. ⌜ r ≡ replies.replied (number code) b b 0 ⌝ }
-{
-    Reply {
-        answer: Answer::Refused(code),
-        number: 0,
-        balance: b,
-    }
-}
 
 // The reply to a grant that no early refusal meets: 17, or the balance with the title in.
 fn settle(b: Balance, t: Title) -> Reply

@@ -1,6 +1,8 @@
 // The register: titles granted, transferred and cancelled, each call from a balance to a reply.
+mod cancel;
 mod effect;
 mod grant;
+mod outcome;
 mod refusal;
 mod water;
 
