@@ -204,7 +204,7 @@ fn run_calls(s: &[u8], from: usize, opened: Balance) -> Balance {
 }
 
 // What is printed for a book; the balance after its calls.
-pub fn run_book(s: &[u8]) -> Balance {
+pub(crate) fn run_book(s: &[u8]) -> Balance {
     if 65536 < s.len() {
         print::refused(21, 65536);
         return Balance::fresh();

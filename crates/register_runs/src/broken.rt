@@ -49,7 +49,7 @@ fn aquifer_with(mut a: Aquifer, f: Figure, v: u32) -> Aquifer {
 }
 
 // A balance with another entry in the unit of a number.
-pub fn with_entry(mut b: Balance, number: usize, e: Entry, v: u32) -> Balance {
+pub(crate) fn with_entry(mut b: Balance, number: usize, e: Entry, v: u32) -> Balance {
     if 0 < number {
         let i = number - 1;
         if i < 64 {
@@ -62,7 +62,7 @@ pub fn with_entry(mut b: Balance, number: usize, e: Entry, v: u32) -> Balance {
 }
 
 // With another storage change in the unit of a number.
-pub fn with_storage(mut b: Balance, number: usize, z: i64) -> Balance {
+pub(crate) fn with_storage(mut b: Balance, number: usize, z: i64) -> Balance {
     if 0 < number {
         let i = number - 1;
         if i < 64 {
@@ -75,7 +75,7 @@ pub fn with_storage(mut b: Balance, number: usize, z: i64) -> Balance {
 }
 
 // With another downstream number in the unit of a number.
-pub fn with_downstream(mut b: Balance, number: usize, to: u8) -> Balance {
+pub(crate) fn with_downstream(mut b: Balance, number: usize, to: u8) -> Balance {
     if 0 < number {
         let i = number - 1;
         if i < 64 {
@@ -88,7 +88,7 @@ pub fn with_downstream(mut b: Balance, number: usize, to: u8) -> Balance {
 }
 
 // With another figure in the aquifer of a number.
-pub fn with_figure(mut b: Balance, number: usize, f: Figure, v: u32) -> Balance {
+pub(crate) fn with_figure(mut b: Balance, number: usize, f: Figure, v: u32) -> Balance {
     if 0 < number {
         let i = number - 1;
         if i < 32 {
@@ -101,7 +101,7 @@ pub fn with_figure(mut b: Balance, number: usize, f: Figure, v: u32) -> Balance 
 }
 
 // With another storage change in the aquifer of a number.
-pub fn with_level(mut b: Balance, number: usize, z: i64) -> Balance {
+pub(crate) fn with_level(mut b: Balance, number: usize, z: i64) -> Balance {
     if 0 < number {
         let i = number - 1;
         if i < 32 {
@@ -114,23 +114,23 @@ pub fn with_level(mut b: Balance, number: usize, z: i64) -> Balance {
 }
 
 // With other counts.
-pub fn with_units(mut b: Balance, n: usize) -> Balance {
+pub(crate) fn with_units(mut b: Balance, n: usize) -> Balance {
     b.unit_count = n;
     b
 }
 
-pub fn with_aquifers(mut b: Balance, n: usize) -> Balance {
+pub(crate) fn with_aquifers(mut b: Balance, n: usize) -> Balance {
     b.aquifer_count = n;
     b
 }
 
-pub fn with_given(mut b: Balance, n: usize) -> Balance {
+pub(crate) fn with_given(mut b: Balance, n: usize) -> Balance {
     b.given = n;
     b
 }
 
 // With another title under a number.
-pub fn with_title(mut b: Balance, number: usize, t: Title, in_force: bool) -> Balance {
+pub(crate) fn with_title(mut b: Balance, number: usize, t: Title, in_force: bool) -> Balance {
     if 0 < number {
         let i = number - 1;
         if i < 256 {
@@ -142,7 +142,7 @@ pub fn with_title(mut b: Balance, number: usize, t: Title, in_force: bool) -> Ba
 }
 
 // With a fifth title in force.
-pub fn with_fifth(b: Balance, t: Title) -> Balance {
+pub(crate) fn with_fifth(b: Balance, t: Title) -> Balance {
     with_given(with_title(b, 5, t, true), 5)
 }
 
@@ -171,21 +171,21 @@ fn replies(b: Balance) {
 }
 
 // A balance that the paper has refused with 0.
-pub fn broken(name: &[u8], b: Balance) {
+pub(crate) fn broken(name: &[u8], b: Balance) {
     print::text(b"broken ");
     print::text(name);
     replies(b);
 }
 
 // A balance that the paper doesn't have refused with 0.
-pub fn sound(name: &[u8], b: Balance) {
+pub(crate) fn sound(name: &[u8], b: Balance) {
     print::text(b"sound ");
     print::text(name);
     replies(b);
 }
 
 // A faulty title: as the fifth in force, as the fifth and cancelled, and in the place beyond the fourth.
-pub fn faulty(name: &[u8], b: Balance, t: Title) {
+pub(crate) fn faulty(name: &[u8], b: Balance, t: Title) {
     broken(name, with_fifth(b, t));
     print::text(b"cancelled ");
     sound(name, with_given(with_title(b, 5, t, false), 5));

@@ -321,7 +321,7 @@ fn of_titles(b: Balance) {
     released(b);
 }
 
-pub fn all(b: Balance) {
+pub(crate) fn all(b: Balance) {
     sound(b"base", b);
     of_entries(b);
     of_titles(b);

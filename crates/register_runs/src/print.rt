@@ -2,23 +2,23 @@
 use libc::STDOUT_FILENO;
 use model::Answer;
 
-pub fn text(s: &[u8]) {
+pub(crate) fn text(s: &[u8]) {
     io::write_all(STDOUT_FILENO, s);
 }
 
 // Decimal digits.
-pub fn digits(n: u64) {
+pub(crate) fn digits(n: u64) {
     io::print_decimal(STDOUT_FILENO, n);
 }
 
 // A space and decimal digits.
-pub fn number(n: u64) {
+pub(crate) fn number(n: u64) {
     text(b" ");
     digits(n);
 }
 
 // A space and decimal digits, after a minus sign where z is below 0.
-pub fn signed(z: i64) {
+pub(crate) fn signed(z: i64) {
     let fall = laws::below(z);
     if 0 < fall {
         text(b" -");
@@ -29,7 +29,7 @@ pub fn signed(z: i64) {
 }
 
 // `refused N at P`.
-pub fn refused(code: u8, place: usize) {
+pub(crate) fn refused(code: u8, place: usize) {
     text(b"refused");
     number(code as u64);
     text(b" at");
@@ -38,7 +38,7 @@ pub fn refused(code: u8, place: usize) {
 }
 
 // `call K given N` or `call K refused N`. The call's index is k.
-pub fn call(k: usize, answer: Answer, title: u16) {
+pub(crate) fn call(k: usize, answer: Answer, title: u16) {
     text(b"call");
     position(k);
     match answer {
@@ -55,7 +55,7 @@ pub fn call(k: usize, answer: Answer, title: u16) {
 }
 
 // A space and the number of an index: one more.
-pub fn position(k: usize) {
+pub(crate) fn position(k: usize) {
     if k < 65536 {
         number((k as u64) + 1);
     }

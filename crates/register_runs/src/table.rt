@@ -53,7 +53,7 @@ fn aquifer_lines(aquifers: [AquiferFigures; 32], n: usize) {
     }
 }
 
-pub fn print_table(b: Balance) {
+pub(crate) fn print_table(b: Balance) {
     let n = b.unit_count;
     let m = b.aquifer_count;
     let f = basin::reply::figures(b);
