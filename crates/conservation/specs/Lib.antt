@@ -1,0 +1,2 @@
+-- Water is conserved.
+pub mod Shares
