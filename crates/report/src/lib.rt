@@ -3,7 +3,7 @@
 ghost use Prim.Native.Nat.{_+_, _≤_};
 ghost use mathlib.Core.Path.{_≡_};
 ghost use mathlib.Core.List.{[]};
-ghost use lib.ListN.{length};
+ghost use lib.ListN.{length, replicate};
 ghost use Rattle.report.specs.Text.{unitLine, aquiferLine, refusedLine, callLine, callGiven, callRefused, callCancelled, Written};
 
 mod piece;
@@ -11,9 +11,9 @@ mod piece;
 // The size of the buffer.
 pub const ROOM: usize = 1048576;
 
-// A buffer of zeros. Its `ensures` gives only the length.
+// A buffer of zeros.
 pub fn blank() -> [u8; ROOM]
-    ensures { λ r. ⌜ 1048576 ≡ length r ⌝ }
+    ensures { λ r. ⌜ r ≡ replicate 1048576 0 ⌝ }
 {
     [0; ROOM]
 }
