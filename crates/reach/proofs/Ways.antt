@@ -12,7 +12,7 @@ use Rattle.laws.proofs.Cases.{by-eq, by-lt}
 use Rattle.model.specs.View.{View}
 use Rattle.river.specs.Flow.{downstream, Ready}
 use Rattle.river.proofs.Reserves.{below-of}
-use Rattle.reach.specs.Reach.{belowTo, liesBelow, outletTo, outlet}
+use Rattle.reach.specs.Reach.{belowTo, liesBelow, outletTo, outlet, sameBasin}
 use Rattle.reach.specs.Passes.{DownstreamNumbers, listed, TreeNumbers, belowBy}
 
 -- The outlet along a way of any length.
@@ -242,3 +242,29 @@ below-same v w r n s u x h =
     ∙ ap (λ (m : ℕ). belowBy (downstream w) m u x) n
     ∙ sym (by-same (downstream v) (v .units) (ready-tree v r) (downstream w) (λ k g. sym (s k g)) (v .units) u x h)
     ∙ sym (below-by v u x)
+
+-- The outlet of unit j, or some unit that drains there, straight or through others: these are the units of j's basin.
+module _ (v : View) (r : Ready v) (o : ℕ) (e : downstream v o ≡ 0) where
+  drains-to : (way k : ℕ) → k < v .units → v .units ≤ way + k → eqb (outlet v k) o ≡ (eqb k o || liesBelow v k o)
+  drains-to zero k h g = absurd (omega arith)
+  drains-to (suc way) k h g =
+      by-eq (downstream v k) 0
+      (λ q. ap (λ (m : ℕ). eqb m o) (outlet-self v k q) ∙ last (eqb k o) (liesBelow v k o) (below-none v k o q))
+      (λ q.
+      let d = pred (downstream v k) in
+      let s = onto (downstream v) (v .units) (record { onward = r .onward; within = r .within }) k h q in
+      ap (λ (m : ℕ). eqb m o) (outlet-next v r k h q)
+      ∙ drains-to way d (s .inside) (omega (arith, s .later))
+      ∙ sym (below-next v r k o h q)
+      ∙ rest (eqb k o) (liesBelow v k o) (ne-eqb k o (λ z. q (ap (downstream v) z ∙ e))))
+    where
+      last : (a b : Bool) → b ≡ false → a ≡ (a || b)
+      last true b p = refl
+      last false b p = sym p
+
+      rest : (a b : Bool) → a ≡ false → b ≡ (a || b)
+      rest a b p = rw p
+
+pub basin-is : (v : View) → Ready v → (j k : ℕ) → j < v .units → k < v .units
+    → sameBasin v j k ≡ (eqb k (outlet v j) || liesBelow v k (outlet v j))
+basin-is v r j k h g = drains-to v r (outlet v j) (outlet-drains v r j h) (v .units) k g (omega arith)

@@ -6,7 +6,7 @@ use borrow.Author.Needs.{needs}
 use Rattle.model.specs.declared.Balance.{Balance}
 use Rattle.model.specs.declared.Answer.the-variants.{Accepted}
 use Rattle.model.specs.View.{View, viewOf}
-use Rattle.basin.proofs.Soundness.{soundness}
+use Rattle.basin.proofs.Soundness.{soundness, sound-ready, sound-wells-ready}
 use Rattle.river.specs.Flow.{Ready}
 use Rattle.river.specs.Figures.{WellsReady}
 use Rattle.register.specs.Grant.{granted, noWater}
@@ -34,16 +34,21 @@ view c =
     ∙ posted-view (start .args .b) (start .args .t) (c .before .sized .ensures)
     (grantable-of (start .args .b) (start .args .t) (start .pre .0) (start .pre .1))
 
+-- The new balance can be worked out, and so can the old one: 17 is refused or not by the balance that it is asked of.
 no-water-requires : tie.Need-no-water-requires
 no-water-requires c κs =
     let start = c .before .before in
+    let t = start .args .t in
     let v = viewOf (start .args .b) in
     let s = soundness v (start .pre .0) in
-    let g = granting-of v (start .args .t) (start .pre .1) in (
-      subst⁻¹ Ready (view c) (granted-ready v (start .args .t) s g),
-      subst⁻¹ WellsReady (view c) (granted-wells-ready v (start .args .t) s g),
-      subst⁻¹ (λ (w : View). Named w (start .args .t)) (view c) (granted-named v (start .args .t) (g .named)),
-    )
+    let g = granting-of v t (start .pre .1) in
+    let new : Ready (viewOf (c .post .result)) × WellsReady (viewOf (c .post .result)) × Named (viewOf (c .post .result)) t = (
+      subst⁻¹ Ready (view c) (granted-ready v t s g),
+      subst⁻¹ WellsReady (view c) (granted-wells-ready v t s g),
+      subst⁻¹ (λ (w : View). Named w t) (view c) (granted-named v t (g .named)),
+    ) in
+    let old : Ready v × WellsReady v × Named v t = (sound-ready v (start .pre .0), sound-wells-ready v (start .pre .0), g .named) in
+    search needs
 
 refused-requires : tie.Need-refused-requires
 refused-requires c κs = search needs
