@@ -1,7 +1,7 @@
 //! Named books at the limits of the paper and at the places where each refusal can arise.
 
 use crate::record::{self, Mark};
-use crate::{text, LONGEST_BOOK};
+use crate::{random, text, LONGEST_BOOK};
 
 /// A named book.
 pub struct Named {
@@ -42,6 +42,12 @@ pub fn books() -> Vec<Named> {
     short_records(&mut list);
     unknown_marks(&mut list);
     call_marks(&mut list);
+    cancellations(&mut list);
+    cancelled_returns(&mut list);
+    water_in_use(&mut list);
+    title_numbers(&mut list);
+    cut_calls(&mut list);
+    mixed_calls(&mut list);
     lengths(&mut list);
     list.0
 }
@@ -509,6 +515,170 @@ fn call_marks(list: &mut List) {
         "short-unit-after-call",
         join(&format!("{FOREST}; cancel 1"), b"UN"),
     );
+}
+
+/// Units 1 and 2 of 1540 each drain to unit 3, an outlet with a commitment; the aquifer has 400 to spare.
+const BASIN: &str = "unit downstream=3; soil cover=8 soil=1 hectares=10000; rain 800 x20; \
+    unit downstream=3; soil cover=8 soil=1 hectares=10000; rain 800 x20; \
+    unit commitment=100; soil cover=8 soil=1 hectares=10000; rain 800 x20; \
+    aquifer natural=600 pumped=100 committed=200 extraction=100";
+
+/// One grant of each kind.
+const GRANTS: [(&str, &str); 4] = [
+    ("withdraw", "withdraw unit=1 use=1 volume=99"),
+    ("pump", "pump aquifer=1 volume=33"),
+    ("transfer", "transfer from=2 to=1 volume=55"),
+    ("bring", "bring aquifer=1 unit=2 volume=77"),
+];
+
+/// Numbers that are given, cancelled, never given, and at the ends of the field.
+fn cancellations(list: &mut List) {
+    for number in [0, 1, 2, 255, 256, 257, 65535] {
+        list.text(
+            &format!("cancel-{number}-of-none"),
+            &format!("{BASIN}; cancel {number}"),
+        );
+    }
+    for (word, grant) in GRANTS {
+        let text =
+            format!("{BASIN}; {grant}; cancel 1; cancel 1; {grant}; cancel 1; cancel 2; cancel 3");
+        list.text(&format!("cancel-{word}"), &text);
+        let refused = format!(
+            "{BASIN}; {grant}; pump aquifer=1 volume=0; cancel 2; cancel 1; cancel 0; cancel 65535"
+        );
+        list.text(&format!("cancel-{word}-after-refusal"), &refused);
+    }
+    let all: Vec<&str> = GRANTS.iter().map(|(_, grant)| *grant).collect();
+    let grants = all.join("; ");
+    for order in [[1, 2, 3, 4], [4, 3, 2, 1], [2, 4, 1, 3], [3, 1, 4, 2]] {
+        let cancels: Vec<String> = order.iter().map(|n| format!("cancel {n}")).collect();
+        let text = format!("{BASIN}; {grants}; {}; {grants}", cancels.join("; "));
+        list.text(&format!("cancel-all-from-{}", order[0]), &text);
+    }
+}
+
+/// A cancelled return is the one that was given, whatever was granted after it.
+fn cancelled_returns(list: &mut List) {
+    for volume in [3, 4, 7, 9] {
+        let grant = format!("withdraw unit=1 use=1 volume={volume}");
+        let five = [grant.as_str(); 5].join("; ");
+        for first in [1, 3, 5] {
+            let text = format!("{BASIN}; {five}; cancel {first}; cancel 2");
+            list.text(&format!("cancelled-return-{volume}-from-{first}"), &text);
+        }
+    }
+    let uses: Vec<String> = (1..=7)
+        .map(|usage| format!("withdraw unit=2 use={usage} volume=7"))
+        .collect();
+    let cancels: Vec<String> = (1..=7).map(|number| format!("cancel {number}")).collect();
+    list.text(
+        "cancelled-return-of-each-use",
+        &format!("{BASIN}; {}; {}", uses.join("; "), cancels.join("; ")),
+    );
+}
+
+/// A transfer whose water is in use: 20 until what uses it is cancelled.
+fn water_in_use(list: &mut List) {
+    for (word, grant, spend) in [
+        (
+            "transfer",
+            "transfer from=1 to=2 volume=500",
+            "withdraw unit=2 use=6 volume=40; transfer from=2 to=1 volume=1900",
+        ),
+        (
+            "bring",
+            "bring aquifer=1 unit=2 volume=300",
+            "transfer from=2 to=1 volume=1840",
+        ),
+    ] {
+        let text =
+            format!("{BASIN}; {grant}; {spend}; cancel 1; cancel 2; cancel 1; cancel 3; cancel 1");
+        list.text(&format!("cancel-{word}-in-use"), &text);
+    }
+    for spent in [1539, 1540, 1541, 1639, 1640] {
+        let text = format!("{BASIN}; bring aquifer=1 unit=2 volume=100; transfer from=2 to=1 volume={spent}; cancel 1; cancel 2; cancel 1");
+        list.text(&format!("cancel-bring-spent-{spent}"), &text);
+    }
+    let below = format!("{BASIN}; bring aquifer=1 unit=1 volume=400; withdraw unit=3 use=5 volume=5500; withdraw unit=3 use=6 volume=1; cancel 1");
+    list.text("cancel-bring-in-use-below", &below);
+}
+
+/// 256 numbers, none of them given twice.
+fn title_numbers(list: &mut List) {
+    let grant = "withdraw unit=3 use=6 volume=1";
+    let pairs = |count: usize| -> String {
+        let each: Vec<String> = (1..=count)
+            .map(|number| format!("{grant}; cancel {number}"))
+            .collect();
+        each.join("; ")
+    };
+    list.text("grant-cancel-256", &format!("{BASIN}; {}", pairs(256)));
+    list.text(
+        "grant-cancel-257",
+        &format!("{BASIN}; {}; {grant}; cancel 256; cancel 257", pairs(256)),
+    );
+    let all = [grant; 256].join("; ");
+    list.text(
+        "cancel-256-of-256",
+        &format!("{BASIN}; {all}; cancel 256; {grant}; cancel 256; cancel 1; {grant}"),
+    );
+    let each: Vec<String> = (1..=256).map(|number| format!("cancel {number}")).collect();
+    list.text(
+        "cancel-all-256",
+        &format!("{BASIN}; {all}; {}; {grant}", each.join("; ")),
+    );
+}
+
+/// Books cut inside a call record, after a call that is given.
+fn cut_calls(list: &mut List) {
+    let given = format!("{BASIN}; withdraw unit=1 use=1 volume=10");
+    for (mark, word) in CALL_MARKS {
+        for missing in 1..=mark.body_length() {
+            list.add(
+                &format!("cut-{word}-by-{missing}"),
+                join(&given, &short(mark, missing)),
+            );
+        }
+    }
+    for (mark, word) in DESCRIPTION_MARKS {
+        list.add(
+            &format!("{word}-after-given"),
+            join(&given, &short(mark, 0)),
+        );
+        list.add(
+            &format!("short-{word}-after-given"),
+            join(&given, &short(mark, 1)),
+        );
+    }
+    list.add(
+        "call-after-failed",
+        join(&given, &[b"XX", b("cancel 1").as_slice()].concat()),
+    );
+}
+
+/// The calls of a book that the reader accepts, and how many of them are cancellations that are accepted.
+fn calls_of(book: &[u8]) -> (usize, usize) {
+    let printed = String::from_utf8(crate::run(book)).expect("what is printed is text");
+    let calls: Vec<&str> = printed
+        .lines()
+        .filter(|line| line.starts_with("call"))
+        .collect();
+    let cancelled = calls
+        .iter()
+        .filter(|line| line.contains("cancelled"))
+        .count();
+    (calls.len(), cancelled)
+}
+
+/// Long mixed lists of calls: the first random books with 40 calls or more, eight of them accepted cancellations.
+fn mixed_calls(list: &mut List) {
+    let long = |book: &Vec<u8>| {
+        let (calls, cancelled) = calls_of(book);
+        book.len() < 8000 && calls >= 40 && cancelled >= 8
+    };
+    for (place, book) in (0..).map(random::book).filter(long).take(40).enumerate() {
+        list.add(&format!("mixed-{}", place + 1), book);
+    }
 }
 
 /// A book of exactly this length: a unit, an aquifer and refused calls.

@@ -20,18 +20,8 @@ pub const LONGEST_BOOK: usize = 65_536;
 
 /// What the program `balance` prints for a book on standard input.
 pub fn run(book: &[u8]) -> Vec<u8> {
-    print(book, run_calls)
-}
-
-/// What the program prints if it stops at the first call mark: the table of the opened description.
-pub fn run_description(book: &[u8]) -> Vec<u8> {
-    print(book, |_, opened| report::table(&opened.balance))
-}
-
-/// Opens the book and prints its refusal, or what `rest` prints of the opened book.
-fn print(book: &[u8], rest: impl Fn(&[u8], book::Opened) -> String) -> Vec<u8> {
     let text = match open_for_program(book) {
-        Ok(opened) => rest(book, opened),
+        Ok(opened) => run_calls(book, opened),
         Err(refusal) => report::refused(&refusal),
     };
     text.into_bytes()

@@ -17,35 +17,34 @@ fn a_seed_gives_one_book_and_most_descriptions_are_accepted() {
 
 /// A file of a program crate that runs many books through the proved functions.
 fn of_crate(program: &str, name: &str) -> Vec<u8> {
-    let folder = Path::new(env!("CARGO_MANIFEST_DIR")).join("../crates").join(program);
+    let folder = Path::new(env!("CARGO_MANIFEST_DIR"))
+        .join("../crates")
+        .join(program);
     std::fs::read(folder.join(name)).expect(name)
-}
-
-/// For each book that a program crate runs: a line with its name, then what is printed for it.
-fn expected(program: &str, print: fn(&[u8]) -> Vec<u8>) -> Vec<u8> {
-    let names = String::from_utf8(of_crate(program, "args")).expect("the names are text");
-    let mut text = Vec::new();
-    for name in names.lines() {
-        text.extend(format!("{name}\n").bytes());
-        text.extend(print(&of_crate(program, &format!("data/{name}"))));
-    }
-    text
 }
 
 #[test]
 fn the_books_of_the_gate_have_the_expected_output() {
-    assert!(expected("book_runs", reference::run_description) == of_crate("book_runs", "stdout"));
-}
-
-#[test]
-fn the_calls_of_the_gate_have_the_expected_output() {
-    assert!(of_crate("register_runs", "stdout").starts_with(&expected("register_runs", reference::run)));
+    let names = String::from_utf8(of_crate("book_runs", "args")).expect("the names are text");
+    let mut text = Vec::new();
+    for name in names.lines() {
+        text.extend(format!("{name}\n").bytes());
+        text.extend(reference::run(&of_crate(
+            "book_runs",
+            &format!("data/{name}"),
+        )));
+    }
+    assert!(text == of_crate("book_runs", "stdout"));
 }
 
 #[test]
 fn the_boundary_books_are_books_of_the_gate() {
     for named in reference::boundary::books() {
-        assert!(named.book == of_crate("book_runs", &format!("data/{}", named.name)), "{}", named.name);
+        assert!(
+            named.book == of_crate("book_runs", &format!("data/{}", named.name)),
+            "{}",
+            named.name
+        );
     }
 }
 

@@ -42,9 +42,6 @@ fn case_f_before_any_call() {
     let table = "unit 1 10080 3063 3063 7017\nunit 2 1540 468 468 1072\n\
                  unit 3 10160 1000 469 9160\naquifer 1 2000 200\n";
     assert_eq!(printed(BASIN), table);
-    let with_calls = reference::text::make(include_str!("../../examples/listing.txt"));
-    let with_calls = with_calls.expect("the example is well formed");
-    assert_eq!(reference::run_description(&with_calls), table.as_bytes());
 }
 
 #[test]
@@ -118,10 +115,6 @@ fn refusals_of_a_description() {
     let mut longer = book(&length);
     longer.push(b'X');
     assert_eq!(printed_bytes(&longer), "refused 21 at 65536\n");
-    assert_eq!(
-        reference::run_description(&longer),
-        b"refused 21 at 65536\n"
-    );
 }
 
 /// The reply to the last call of a text.
@@ -174,7 +167,6 @@ fn a_failing_call_record_is_printed_before_the_table() {
         book.extend(bytes);
         let expected = format!("call 1 refused 19\nrefused {number} at 123\n{table}");
         assert_eq!(printed_bytes(&book), expected);
-        assert_eq!(reference::run_description(&book), table.as_bytes());
     }
 }
 

@@ -1,6 +1,6 @@
 -- What reading and opening promise of every book. Assumes nothing.
 use Prim.Native.Nat.{ℕ, zero, suc, _+_, _-_, _≤_, _<_}
-use mathlib.Core.Path.{_≡_, refl, sym, ap, _∙_, subst⁻¹}
+use mathlib.Core.Path.{_≡_, refl, sym, ap, _∙_, subst, subst⁻¹}
 use mathlib.Core.Logic.{_↔_}
 use mathlib.Core.Bool.{true, not}
 use mathlib.Core.List.{List, []}
@@ -148,12 +148,6 @@ well-is-sound a f =
       recharged = parts-nonNeg (recharge a) (sym (below-pos (recharge a) (f .recharged)));
     }
 
--- What holds of a refusal and, where no unit is at fault, of the rest holds of both together.
-through-fault : (P : Outcome → Type 0) → ((n p : ℕ) → P (refused n p)) → (n : ℕ) (f : Found) (rest : Outcome) → (f ≡ Nothing → P rest)
-    → P (faultAt n f rest)
-through-fault P fails n (At j) rest k = fails n _
-through-fault P fails n Nothing rest k = k refl
-
 module _ (d : Description) (good : Good d) where
   description-sound : closingFault (length (d .units)) (lastUnit d) ≡ 0
       → first (length (d .units)) (λ j. ltb (length (d .units)) (getD (d .units) j noUnit .downstream)) ≡ Nothing
@@ -177,37 +171,61 @@ module _ (d : Description) (good : Good d) where
       nothing : (t : Slot) (j x : ℕ) → titled (viewOf (balanceOf d)) 0 t j ≤ x
       nothing t j x = omega (arith, places-none t j (viewOf (balanceOf d) .place))
 
-  ended-sound : (at : ℕ) → SoundAfter (ended d at)
-  ended-sound at =
-      by-eq (closingFault (length (d .units)) (lastUnit d)) 0
-      (λ e. rw (eq-eqb (closingFault (length (d .units)) (lastUnit d)) 0 e)
-      (through-fault SoundAfter (λ n p. fresh-sound) 8 _ _
-      (λ m. through-fault SoundAfter (λ n p. fresh-sound) 10 _ _ (λ f. description-sound e m f))))
-      (λ e. rw (ne-eqb (closingFault (length (d .units)) (lastUnit d)) 0 e) fresh-sound)
+-- The two tests of a whole description at its end: 8 and 10.
+abbrev missing : Description → Found
+missing d = first (length (d .units)) (λ j. ltb (length (d .units)) (getD (d .units) j noUnit .downstream))
 
--- One record more, where the rest is sound.
-one-sound : (f : ℕ) (s : List ℕ) (at : ℕ) (d : Description) → Good d
-    → ((to : ℕ) (x : Description) → to ≤ length s → Good x → SoundAfter (readingFrom f s to x))
-    → (n : Next) → nextOf s at d ≡ n → Facts s (lastUnit d) (length (d .units)) (length (d .aquifers)) n → SoundAfter (readingFrom (suc f) s at d)
-one-sound f s at d good rest Ends e t = subst⁻¹ SoundAfter (from-ends f s at d e) (ended-sound d good at)
-one-sound f s at d good rest (Refused n p) e t = subst⁻¹ SoundAfter (from-refused f s at d n p e) fresh-sound
-one-sound f s at d good rest (Opens u to) e t =
-    subst⁻¹ SoundAfter (from-opens f s at d u to e) (rest to _ (t .within) (good-unit d good s u to t))
-one-sound f s at d good rest (Grows u to) e t =
-    subst⁻¹ SoundAfter (from-grows f s at d u to e) (rest to _ (t .within) (good-last d good s u to t))
-one-sound f s at d good rest (Adds a to) e t =
-    subst⁻¹ SoundAfter (from-adds f s at d a to e) (rest to _ (t .within) (good-aquifer d good s a to t))
+abbrev negative : Description → Found
+negative d = first (length (d .units)) (λ j. not (nonNeg (flow (viewOf (balanceOf d)) j)))
 
-reading-sound : (f : ℕ) (s : List ℕ) (at : ℕ) (d : Description) → at ≤ length s → Good d → SoundAfter (readingFrom f s at d)
-unfolding readingFrom
-reading-sound zero s at d h good = fresh-sound
-reading-sound (suc f) s at d h good =
-    one-sound f s at d good (reading-sound f s) (nextOf s at d) refl
-    (next-facts s at (lastUnit d) (length (d .units)) (length (d .aquifers)) h (good .sane))
+-- What holds of every refusal, and of every description that passes the tests at its end, holds of what reading gives.
+module _ (P : Outcome → Type 0) (fails : (n p : ℕ) → P (refused n p))
+    (reads : (d : Description) → Good d → closingFault (length (d .units)) (lastUnit d) ≡ 0 → missing d ≡ Nothing → negative d ≡ Nothing
+    → (at : ℕ) → P (read d at))
+  where
+    through-fault : (n : ℕ) (f : Found) (rest : Outcome) → (f ≡ Nothing → P rest) → P (faultAt n f rest)
+    through-fault n (At j) rest k = fails n (suc j)
+    through-fault n Nothing rest k = k refl
+
+    through-end : (d : Description) → Good d → (at : ℕ) → P (ended d at)
+    through-end d good at =
+        let c = closingFault (length (d .units)) (lastUnit d) in
+        by-eq c 0
+        (λ e. rw (eq-eqb c 0 e)
+        (through-fault 8 (missing d) _ (λ m. through-fault 10 (negative d) _ (λ f. reads d good e m f at))))
+        (λ e. rw (ne-eqb c 0 e) (fails c (lastUnit d .at)))
+
+    one-record : (f : ℕ) (s : List ℕ) (at : ℕ) (d : Description) → Good d
+        → ((to : ℕ) (x : Description) → to ≤ length s → Good x → P (readingFrom f s to x))
+        → (n : Next) → nextOf s at d ≡ n → Facts s (lastUnit d) (length (d .units)) (length (d .aquifers)) n → P (readingFrom (suc f) s at d)
+    one-record f s at d good rest Ends e t = subst⁻¹ P (from-ends f s at d e) (through-end d good at)
+    one-record f s at d good rest (Refused n p) e t = subst⁻¹ P (from-refused f s at d n p e) (fails n p)
+    one-record f s at d good rest (Opens u to) e t = subst⁻¹ P (from-opens f s at d u to e) (rest to _ (t .within) (good-unit d good s u to t))
+    one-record f s at d good rest (Grows u to) e t = subst⁻¹ P (from-grows f s at d u to e) (rest to _ (t .within) (good-last d good s u to t))
+    one-record f s at d good rest (Adds a to) e t = subst⁻¹ P (from-adds f s at d a to e) (rest to _ (t .within) (good-aquifer d good s a to t))
+
+    all-records : (f : ℕ) (s : List ℕ) (at : ℕ) (d : Description) → at ≤ length s → Good d → P (readingFrom f s at d)
+    unfolding readingFrom
+    all-records zero s at d h good = fails 1 at
+    all-records (suc f) s at d h good =
+        one-record f s at d good (all-records f s) (nextOf s at d) refl
+        (next-facts s at (lastUnit d) (length (d .units)) (length (d .aquifers)) h (good .sane))
+
+    through-reading : (s : List ℕ) → P (reading s)
+    through-reading s = all-records (length s + 1) s 0 (record { units = []; aquifers = [] }) (omega arith) good-start
 
 -- Opening never hands out a balance that falls under 0.
 pub opening-sound : (s : List ℕ) → sound (viewOf (opened s .balance)) ≡ true
-opening-sound s = reading-sound (length s + 1) s 0 (record { units = []; aquifers = [] }) (omega arith) good-start
+opening-sound s = through-reading SoundAfter (λ n p. fresh-sound) (λ d good e m f at. description-sound d good e m f) s
+
+-- Every unit of the description, where there is one, is closed.
+abbrev AllClosed : Outcome → Type 0
+AllClosed (read d at) = (k : ℕ) → k < length (d .units) → Closed (getD (d .units) k noUnit)
+AllClosed (refused n p) = Unit {0}
+
+-- Each unit of an accepted description is closed: it has 20 to 50 years.
+pub units-closed : (s : List ℕ) (d : Description) (at : ℕ) → reading s ≡ read d at → (k : ℕ) → k < length (d .units) → Closed (getD (d .units) k noUnit)
+units-closed s d at e = subst AllClosed e (through-reading AllClosed (λ n p. tt) (λ x good c m f to. all-closed x good [] c) s)
 
 -- What opening a book answers: accepted exactly when reading ends with a description, with its balance and the offset where it ends;
 -- refused, the fresh balance.

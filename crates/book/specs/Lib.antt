@@ -4,3 +4,4 @@ pub mod Record
 pub mod Fault
 pub mod Reading
 pub mod Opening
+pub mod Calls

@@ -1,10 +1,12 @@
 // The book: reading a description record by record, and opening it as a balance.
 mod bytes;
+mod calls;
 mod fault;
 mod opening;
 mod record;
 mod step;
 
+pub use calls::call_at;
 pub use opening::read_book;
 
 // A unit as its book describes it: the offset of its UN mark, the fields of its UN, and of the records after it how many soil records
@@ -35,6 +37,24 @@ pub enum Mark {
     Ac,
     Call,
     Unknown,
+}
+
+// Which call two bytes are the mark of.
+pub enum CallMark {
+    Gu,
+    Ga,
+    Tu,
+    Ta,
+    Ca,
+    None,
+}
+
+// What stands at an offset after the description: nothing more, a record that fails with 1 or 2, or a call and the offset of the next
+// record.
+pub enum CallAt {
+    End,
+    Fails { number: u8 },
+    Asks { call: model::Call, to: usize },
 }
 
 // What a record does to a description: it ends it, is refused, opens a unit, belongs to the open unit, or adds an aquifer. `to` is the

@@ -1,28 +1,25 @@
 -- The cases of document 01 ("Cases for the proof table") as one group of theorems of the definitions. Assumes nothing.
-use Prim.Native.Nat.{ℕ, zero, suc, _+_, _*_, _/_, _<_}
-use mathlib.Core.Path.{_≡_, refl, sym, ap, _∙_, subst}
+use Prim.Native.Nat.{ℕ, _+_, _*_, _/_}
+use mathlib.Core.Path.{_≡_, refl, sym, ap, _∙_}
 use mathlib.Core.Bool.{true}
 use mathlib.Core.List.{List, [], _∷_, _++_}
-use lib.ListN.{length, getD, replicate}
-use lib.IntN.{pos, negsuc}
-use native.Mathlib.Omega.{arith}
+use lib.ListN.{length, replicate}
+use lib.IntN.{pos}
 use Rattle.laws.specs.Sum.{sumOf}
 use Rattle.laws.specs.Gather.{gather, gatherTo}
 use Rattle.laws.specs.Table.{table, tabulate}
-use Rattle.laws.proofs.Arrays.{table-same}
-use Rattle.model.specs.declared.Unit.{Unit}
+use Rattle.model.specs.declared.Title.the-variants.{UnitWithdrawal, AquiferWithdrawal, AquiferTransfer}
+use Rattle.model.specs.declared.Call.the-variants.{Grant}
 use Rattle.model.specs.declared.Balance.{Balance}
 use Rattle.model.specs.declared.Answer.the-variants.{Accepted}
-use Rattle.model.specs.Fresh.{emptyUnit, emptyAquifer, emptyPlace}
 use Rattle.model.specs.View.{View, viewOf}
-use Rattle.model.specs.Answers.{firstFrom}
 use Rattle.runoff.specs.Soil.{coefficient, coefficients}
 use Rattle.runoff.specs.Year.{rainYear, rainParts}
 use Rattle.runoff.specs.Mean.{rounded}
 use Rattle.runoff.specs.Record.{Plot, areaOf, weightedOf, rainSum, rainRunoff}
 use Rattle.river.specs.Flow.{flow}
 use Rattle.river.specs.Reserve.{contribution, inflow, total, demand, committedTo, committed, ownReserve}
-use Rattle.river.specs.Figures.{unitFigures, noUnitFigures, noAquiferFigures, allUnitFigures, allAquiferFigures}
+use Rattle.river.specs.Figures.{unitFigures, aquiferFigures, noUnitFigures, noAquiferFigures}
 use Rattle.river.specs.declared.UnitFigures.{UnitFigures}
 use Rattle.river.specs.declared.AquiferFigures.{AquiferFigures}
 use Rattle.basin.specs.Sound.{sound}
@@ -30,9 +27,14 @@ use Rattle.basin.specs.Figures.{figuresReply}
 use Rattle.basin.specs.declared.Figures.{Figures}
 use Rattle.basin.proofs.Replies.{accepted-reply}
 use Rattle.book.specs.declared.Opened.{Opened}
-use Rattle.book.specs.Reading.{next, readingFrom, opened}
-use Rattle.book.proofs.Promises.{opening-sound}
-use Rattle.cases.specs.Printed.{printedDescription, printedCalls, printedBook}
+use Rattle.book.specs.Reading.{opened}
+use Rattle.book.specs.Calls.{callsOf}
+use Rattle.register.specs.Calls.{after}
+use Rattle.report.specs.Text.{ascii}
+use Rattle.listing.specs.Listing.{printed}
+use Rattle.cases.specs.Printed.{printedDescription, printedBook}
+use Rattle.cases.specs.Balances.{firstTitle, printedBalance, firstBalance, printed-opens, printed-sound, first-sound, calls-are}
+use Rattle.cases.specs.Lines.{after-first, printed-is}
 
 -- So many hectares of a cover on a soil.
 abbrev pub plot : ℕ → ℕ → ℕ → Plot
@@ -80,18 +82,23 @@ aquiferLine recharge availability = record { recharge = pos recharge; availabili
 abbrev pub printedView : View
 printedView = viewOf (opened printedBook .balance)
 
--- The table of the printed book before any call, with 0 in the unused places.
-abbrev pub beforeCalls : Figures
-beforeCalls =
+-- The table of three units and an aquifer, with 0 in the unused places.
+abbrev pub tableOf : UnitFigures → UnitFigures → UnitFigures → AquiferFigures → Figures
+tableOf first second third well =
     record {
       answer = Accepted;
-      units =
-          unitLine 10080 3063 3063 7017
-          ∷ unitLine 1540 468 468 1072
-          ∷ unitLine 10160 1000 469 9160
-          ∷ replicate 61 noUnitFigures;
-      aquifers = aquiferLine 2000 200 ∷ replicate 31 noAquiferFigures;
+      units = first ∷ second ∷ third ∷ replicate 61 noUnitFigures;
+      aquifers = well ∷ replicate 31 noAquiferFigures;
     }
+
+-- The table of the printed book before any call, and after call 1.
+abbrev pub beforeCalls : Figures
+beforeCalls =
+    tableOf (unitLine 10080 3063 3063 7017) (unitLine 1540 468 468 1072) (unitLine 10160 1000 469 9160) (aquiferLine 2000 200)
+
+abbrev pub afterFirstCall : Figures
+afterFirstCall =
+    tableOf (unitLine 10080 4460 4460 5620) (unitLine 1540 681 681 859) (unitLine 8560 1000 859 7560) (aquiferLine 2000 200)
 
 -- What a contributor of c would get of unit 3's demand if its share were floored alone.
 abbrev pub flooredAlone : View → ℕ → ℕ
@@ -127,6 +134,16 @@ pub record CasesHold : Type 0 where
       flooredAlone printedView (contribution printedView 0) + flooredAlone printedView (contribution printedView 1)
       + flooredAlone printedView (inflow (printedView .unit 2))
       ≡ 3999
+  -- (g) the printed book's figures after call 1.
+  pub g : figuresReply (viewOf (after (opened printedBook .balance) (Grant (UnitWithdrawal 3 1 2000) ∷ []))) ≡ afterFirstCall
+  -- (h) the printed book's calls, and all that is printed for it.
+  pub h-calls :
+      callsOf printedBook (opened printedBook .place)
+      ≡ Grant (UnitWithdrawal 3 1 2000) ∷ Grant (UnitWithdrawal 2 1 2000) ∷ Grant (AquiferWithdrawal 1 250) ∷ Grant (AquiferTransfer 1 3 200) ∷ []
+  pub h :
+      printed printedBook
+      ≡ ascii
+      "call 1 given 1\ncall 2 refused 17\ncall 3 refused 17\ncall 4 given 2\nunit 1 10080 4395 4395 5685\nunit 2 1540 671 671 869\nunit 3 8760 1000 934 7760\naquifer 1 2000 0\n"
 
 -- (a) to (e) are computed.
 case-a : rainRunoff meadow (replicate 20 800) ≡ 10080
@@ -172,38 +189,32 @@ case-each : rounded (19 * rounded (yearOn half 500) rainParts + rounded (yearOn 
 unfolding rainYear areaOf weightedOf coefficient coefficients rounded
 case-each = refl
 
--- (f): the balance that the printed book opens, written out.
-unit : ℕ → ℕ → ℕ → ℕ → Unit
-unit downstream extraction commitment runoff =
-    record {
-      downstream = downstream;
-      extraction = extraction;
-      exports = 0;
-      imports = 0;
-      returns = 0;
-      evaporation = 0;
-      storage = pos 0;
-      commitment = commitment;
-      runoff = runoff;
-    }
+-- (f) and (g): the figures of a view of three units and an aquifer.
+three-units : (f : ℕ → UnitFigures) → table 64 noUnitFigures 3 f ≡ f 0 ∷ f 1 ∷ f 2 ∷ replicate 61 noUnitFigures
+unfolding table tabulate
+three-units f = refl
 
-unfoldable pub printedBalance : Balance
-unfolding unit
-printedBalance =
-    record {
-      units = unit 3 0 0 10080 ∷ unit 3 0 0 1540 ∷ unit 0 3000 1000 1540 ∷ replicate 61 emptyUnit;
-      «unit_count» = 3;
-      aquifers =
-          record { storage = negsuc 199; natural = 900; pumped = 1300; committed = 500; extraction = 1300 } ∷ replicate 31 emptyAquifer;
-      «aquifer_count» = 1;
-      titles = replicate 256 emptyPlace;
-      given = 0;
-    }
+one-aquifer : (f : ℕ → AquiferFigures) → table 32 noAquiferFigures 1 f ≡ f 0 ∷ replicate 31 noAquiferFigures
+unfolding table tabulate
+one-aquifer f = refl
 
--- Opening the printed book gives this balance.
-pub printed-opens : opened printedBook ≡ record { answer = Accepted; place = 379; balance = printedBalance }
-unfolding printedBook printedDescription printedCalls printedBalance readingFrom next table tabulate firstFrom flow gather gatherTo sumOf rainYear coefficient coefficients rounded
-printed-opens = refl
+abbrev tableFrom : View → Figures
+tableFrom v = tableOf (unitFigures v 0) (unitFigures v 1) (unitFigures v 2) (aquiferFigures v 0)
+
+figures-are : (v : View) → sound v ≡ true → v .units ≡ 3 → v .aquifers ≡ 1 → figuresReply v ≡ tableFrom v
+figures-are v s three one =
+    sym (accepted-reply v _ _ s
+    (sym (ap (λ (n : ℕ). table 64 noUnitFigures n (unitFigures v)) three ∙ three-units (unitFigures v)))
+    (sym (ap (λ (n : ℕ). table 32 noAquiferFigures n (aquiferFigures v)) one ∙ one-aquifer (aquiferFigures v))))
+
+-- (f).
+table-before : tableFrom (viewOf printedBalance) ≡ beforeCalls
+unfolding printedBalance flow gather gatherTo sumOf committed committedTo
+table-before = refl
+
+figures-before : figuresReply (viewOf printedBalance) ≡ beforeCalls
+unfolding printedBalance
+figures-before = figures-are (viewOf printedBalance) printed-sound refl refl ∙ table-before
 
 is-view : printedView ≡ viewOf printedBalance
 is-view = ap (λ (o : Opened). viewOf (o .balance)) printed-opens
@@ -211,45 +222,6 @@ is-view = ap (λ (o : Opened). viewOf (o .balance)) printed-opens
 ends : 379 ≡ length printedDescription
 unfolding printedDescription
 ends = refl
-
--- Its figures, unit by unit.
-listed : ℕ → UnitFigures
-listed k = getD (beforeCalls .units) k noUnitFigures
-
-first-line : listed 0 ≡ unitFigures (viewOf printedBalance) 0
-unfolding listed printedBalance flow gather gatherTo sumOf committed committedTo
-first-line = refl
-
-second-line : listed 1 ≡ unitFigures (viewOf printedBalance) 1
-unfolding listed printedBalance flow gather gatherTo sumOf committed committedTo
-second-line = refl
-
-third-line : listed 2 ≡ unitFigures (viewOf printedBalance) 2
-unfolding listed printedBalance flow gather gatherTo sumOf committed committedTo
-third-line = refl
-
-each-line : (k : ℕ) → k < 3 → listed k ≡ unitFigures (viewOf printedBalance) k
-each-line zero h = first-line
-each-line (suc zero) h = second-line
-each-line (suc (suc zero)) h = third-line
-each-line (suc (suc (suc k))) h = absurd (omega arith)
-
-lines-table : beforeCalls .units ≡ table 64 noUnitFigures 3 listed
-unfolding listed table tabulate
-lines-table = refl
-
-lines-are : beforeCalls .units ≡ allUnitFigures (viewOf printedBalance)
-unfolding printedBalance
-lines-are = lines-table ∙ table-same 64 noUnitFigures 3 listed (unitFigures (viewOf printedBalance)) (omega arith) each-line
-
-wells-are : beforeCalls .aquifers ≡ allAquiferFigures (viewOf printedBalance)
-unfolding printedBalance table tabulate
-wells-are = refl
-
-figures-are : figuresReply (viewOf printedBalance) ≡ beforeCalls
-figures-are =
-    sym (accepted-reply (viewOf printedBalance) (beforeCalls .units) (beforeCalls .aquifers)
-    (subst (λ (v : View). sound v ≡ true) is-view (opening-sound printedBook)) lines-are wells-are)
 
 -- Its shares.
 written-demand : demand (viewOf printedBalance .unit 2) (committed (viewOf printedBalance) 2) ≡ 4000
@@ -266,6 +238,15 @@ written-floored-alone :
     ≡ 3999
 unfolding printedBalance committed committedTo flow gather gatherTo sumOf
 written-floored-alone = refl
+
+-- (g).
+table-after : tableFrom (viewOf firstBalance) ≡ afterFirstCall
+unfolding firstBalance flow gather gatherTo sumOf committed committedTo
+table-after = refl
+
+figures-after : figuresReply (viewOf firstBalance) ≡ afterFirstCall
+unfolding firstBalance
+figures-after = figures-are (viewOf firstBalance) first-sound refl refl ∙ table-after
 
 -- The cases hold.
 pub cases-hold : CasesHold
@@ -284,10 +265,16 @@ cases-hold =
       each-year-rounded = case-each;
       f-accepted = ap (λ (o : Opened). o .answer) printed-opens;
       f-place = ap (λ (o : Opened). o .place) printed-opens ∙ ends;
-      f = ap figuresReply is-view ∙ figures-are;
+      f = ap figuresReply is-view ∙ figures-before;
       f-demand = ap (λ (v : View). demand (v .unit 2) (committed v 2)) is-view ∙ written-demand;
       f-shares = ap (λ (v : View). committed v 0 + committed v 1 + ownReserve v 2) is-view ∙ written-shares;
       f-floored-alone =
           ap (λ (v : View). flooredAlone v (contribution v 0) + flooredAlone v (contribution v 1) + flooredAlone v (inflow (v .unit 2))) is-view
           ∙ written-floored-alone;
+      g =
+          ap (λ (o : Opened). figuresReply (viewOf (after (o .balance) (Grant firstTitle ∷ [])))) printed-opens
+          ∙ ap (λ (b : Balance). figuresReply (viewOf b)) after-first
+          ∙ figures-after;
+      h-calls = ap (λ (o : Opened). callsOf printedBook (o .place)) printed-opens ∙ calls-are;
+      h = printed-is;
     }

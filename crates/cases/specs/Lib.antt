@@ -1,3 +1,5 @@
 -- The cases of document 01, and the book that it prints.
 pub mod Printed
+pub mod Balances
+pub mod Lines
 pub mod Cases

@@ -84,7 +84,7 @@ abbrev pub passes : (ℕ → ℕ) → ℕ → ℕ → Bool
 passes down n k = eqb (down k) 0 || ltb n (down k)
 
 -- Of the amounts on the way after n places, those that drain into place n stop there and the others go on.
-split-only : (n d a : ℕ) → only naturals (eqb d 0 || ltb n d) a ≡ only naturals (eqb d (suc n)) a + only naturals (eqb d 0 || ltb (suc n) d) a
+pub split-only : (n d a : ℕ) → only naturals (eqb d 0 || ltb n d) a ≡ only naturals (eqb d (suc n)) a + only naturals (eqb d 0 || ltb (suc n) d) a
 split-only n d a =
     by-eq d 0
     (λ e. rw (eq-eqb d 0 e, ne-eqb d (suc n) (omega arith)) (omega arith))
@@ -96,7 +96,7 @@ split-only n d a =
     (λ h. rw (lt-ltb n d h, lt-ltb (suc n) d (omega arith)) (omega arith))
     (λ h. rw (le-ltb n d h, le-ltb (suc n) d (omega arith)) (omega arith))))))
 
-passing : (n d a : ℕ) → (d ≡ 0) ⊎ (suc n < d) → only naturals (eqb d 0 || ltb (suc n) d) a ≡ a
+pub passing : (n d a : ℕ) → (d ≡ 0) ⊎ (suc n < d) → only naturals (eqb d 0 || ltb (suc n) d) a ≡ a
 passing n d a t = ⊎-elim (λ e. rw (eq-eqb d 0 e)) (λ h. rw (ne-eqb d 0 (omega arith), lt-ltb (suc n) d h)) t
 
 pub sum-plus : (n : ℕ) (x y : ℕ → ℕ) → sumOf naturals n (λ k. x k + y k) ≡ sumOf naturals n x + sumOf naturals n y

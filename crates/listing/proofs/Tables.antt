@@ -19,7 +19,7 @@ use Rattle.basin.specs.Figures.{figuresReply}
 use Rattle.basin.proofs.Soundness.{soundness}
 use Rattle.book.specs.Reading.{opened}
 use Rattle.report.specs.Text.{refusedLine}
-use Rattle.listing.specs.Listing.{linesOf, unitText, aquiferText, tableText, answerText, printed}
+use Rattle.listing.specs.Listing.{linesOf, unitText, aquiferText, tableText, runText, answerText, printed}
 
 -- A reply is accepted exactly when the balance is sound.
 pub accepted-sound : (v : View) → figuresReply v .answer ≡ Accepted → sound v ≡ true
@@ -67,12 +67,14 @@ no-table v s = rw s
 pub printed-long : (s : List ℕ) → 65536 < length s → refusedLine 21 65536 ≡ printed s
 printed-long s h = rw (lt-ltb 65536 (length s) h)
 
-pub printed-accepted : (s : List ℕ) → length s ≤ 65536 → opened s .answer ≡ Accepted → tableText (viewOf (opened s .balance)) ≡ printed s
-printed-accepted s h e =
-    sym (ap (λ (t : Bool). cond t (refusedLine 21 65536) (answerText (opened s .answer) (opened s .place) (opened s .balance))) (le-ltb 65536 (length s) h)
-    ∙ ap (λ (a : Answer). answerText a (opened s .place) (opened s .balance)) e)
+module _ (s : List ℕ) (h : length s ≤ 65536) (a : Answer) (e : opened s .answer ≡ a) where
+  by-answer : answerText s a (opened s .place) (opened s .balance) ≡ printed s
+  by-answer =
+      sym (ap (λ (t : Bool). cond t (refusedLine 21 65536) (answerText s (opened s .answer) (opened s .place) (opened s .balance))) (le-ltb 65536 (length s) h)
+      ∙ ap (λ (x : Answer). answerText s x (opened s .place) (opened s .balance)) e)
+
+pub printed-accepted : (s : List ℕ) → length s ≤ 65536 → opened s .answer ≡ Accepted → runText s (opened s .place) (opened s .balance) ≡ printed s
+printed-accepted s h e = by-answer s h Accepted e
 
 pub printed-refused : (s : List ℕ) (n : ℕ) → length s ≤ 65536 → opened s .answer ≡ Refused n → refusedLine n (opened s .place) ≡ printed s
-printed-refused s n h e =
-    sym (ap (λ (t : Bool). cond t (refusedLine 21 65536) (answerText (opened s .answer) (opened s .place) (opened s .balance))) (le-ltb 65536 (length s) h)
-    ∙ ap (λ (a : Answer). answerText a (opened s .place) (opened s .balance)) e)
+printed-refused s n h e = by-answer s h (Refused n) e

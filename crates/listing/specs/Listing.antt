@@ -1,11 +1,13 @@
 -- The whole text that is printed for a book (document 01, "One book, printed"). Assumes nothing.
 use Prim.Native.Nat.{ℕ, zero, suc}
 use mathlib.Core.Bool.{cond}
-use mathlib.Core.List.{List, [], _++_}
+use mathlib.Core.List.{List, [], _∷_, _++_}
 use lib.Dec.{ltb}
 use lib.ListN.{length}
 use Rattle.model.specs.declared.Answer.{Answer}
 use Rattle.model.specs.declared.Answer.the-variants.{Accepted, Refused}
+use Rattle.model.specs.declared.Call.{Call}
+use Rattle.model.specs.declared.Call.the-variants.{Grant, Cancel}
 use Rattle.model.specs.declared.Balance.{Balance}
 use Rattle.model.specs.View.{View, viewOf}
 use Rattle.river.specs.declared.UnitFigures.{UnitFigures}
@@ -13,7 +15,11 @@ use Rattle.river.specs.declared.AquiferFigures.{AquiferFigures}
 use Rattle.river.specs.Figures.{unitFigures, aquiferFigures}
 use Rattle.basin.specs.Sound.{sound}
 use Rattle.book.specs.Reading.{opened}
-use Rattle.report.specs.Text.{unitLine, aquiferLine, refusedLine}
+use Rattle.book.specs.Calls.{callsOf}
+use Rattle.register.specs.Calls.{callReply}
+use Rattle.calls.specs.declared.Ran.{Ran}
+use Rattle.calls.specs.Running.{ran}
+use Rattle.report.specs.Text.{unitLine, aquiferLine, refusedLine, callGiven, callRefused, callCancelled}
 
 -- The lines of n places, one after the other.
 unfoldable pub linesOf : ℕ → (ℕ → List ℕ) → List ℕ
@@ -34,13 +40,42 @@ tableText v =
     cond (sound v)
     (linesOf (v .units) (λ k. unitText (unitFigures v k) k) ++ linesOf (v .aquifers) (λ k. aquiferText (aquiferFigures v k) k)) []
 
--- An accepted description prints its table, a refused one only `refused N at P`.
-abbrev pub answerText : Answer → ℕ → Balance → List ℕ
-answerText Accepted place b = tableText (viewOf b)
-answerText (Refused n) place b = refusedLine n place
+-- The line of a call at place k among the book's calls: `given` with the title number, `cancelled` with the number cancelled, or
+-- `refused` with the refusal.
+abbrev pub acceptedText : ℕ → Call → ℕ → List ℕ
+acceptedText k (Grant t) n = callGiven k n
+acceptedText k (Cancel m) n = callCancelled k n
+
+abbrev pub callText : ℕ → Call → Answer → ℕ → List ℕ
+callText k c Accepted n = acceptedText k c n
+callText k c (Refused x) n = callRefused k x
+
+-- The lines of a list of calls, the first of them at place k, run over a balance one after the other.
+unfoldable pub callLines : ℕ → Balance → List Call → List ℕ
+callLines k b [] = []
+callLines k b (c ∷ cs) =
+    callText k c (callReply b c .answer) (callReply b c .number) ++ callLines (suc k) (callReply b c .balance) cs
+
+-- A call record failing with 1 or 2 prints `refused N at P`.
+abbrev pub endText : Answer → ℕ → List ℕ
+endText Accepted place = []
+endText (Refused n) place = refusedLine n place
+
+-- What follows the call lines: the line of a record that failed, then the table after the calls.
+abbrev pub ranText : Ran → List ℕ
+ranText r = endText (r .answer) (r .place) ++ tableText (viewOf (r .balance))
+
+-- Call lines come first.
+abbrev pub runText : List ℕ → ℕ → Balance → List ℕ
+runText s at b = callLines 1 b (callsOf s at) ++ ranText (ran s at b)
+
+-- An accepted description prints its calls and its table, a refused one only `refused N at P`.
+abbrev pub answerText : List ℕ → Answer → ℕ → Balance → List ℕ
+answerText s Accepted place b = runText s place b
+answerText s (Refused n) place b = refusedLine n place
 
 -- 21 a book over 65,536 bytes, place 65536, printed as a refused description.
 abbrev pub printed : List ℕ → List ℕ
 printed s =
     cond (ltb 65536 (length s)) (refusedLine 21 65536)
-    (answerText (opened s .answer) (opened s .place) (opened s .balance))
+    (answerText s (opened s .answer) (opened s .place) (opened s .balance))

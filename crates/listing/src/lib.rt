@@ -7,16 +7,20 @@ ghost use Rattle.model.specs.View.{viewOf};
 ghost use Rattle.river.specs.Figures.{noUnitFigures, noAquiferFigures};
 ghost use Rattle.report.specs.Text.{Written};
 ghost use Rattle.listing.specs.Listing as text;
+ghost use Rattle.listing.specs.Printing as printing;
 use basin::reply::figures;
+use book::CallAt;
+use calls::Ran;
 use model::Answer;
 use model::Balance;
+use model::Call;
 use report::ROOM;
 use river::AquiferFigures;
 use river::UnitFigures;
 
 // The lines of the first n units.
 fn unit_lines(out: &mut [u8; ROOM], at: usize, units: [UnitFigures; 64], n: usize) -> usize
-    requires { ⌜ (n ≤ 64) × (at + 8192 ≤ 1048576) ⌝ }
+    requires { ⌜ (n ≤ 64) × (at + 8192 ≤ 1064960) ⌝ }
     ensures { λ r. ⌜ Written 8192 (now (out .entry)) at (text.linesOf n (λ k. text.unitText (getD units k noUnitFigures) k)) (now (out .exit)) r ⌝ }
 {
     let mut p = report::no_line(out, at);
@@ -31,7 +35,7 @@ fn unit_lines(out: &mut [u8; ROOM], at: usize, units: [UnitFigures; 64], n: usiz
 
 // The line of the unit at an index.
 fn unit_line(out: &mut [u8; ROOM], at: usize, k: usize, f: UnitFigures) -> usize
-    requires { ⌜ (k ≤ 64) × (at + 128 ≤ 1048576) ⌝ }
+    requires { ⌜ (k ≤ 64) × (at + 128 ≤ 1064960) ⌝ }
     ensures { λ r. ⌜ Written 128 (now (out .entry)) at (text.unitText f k) (now (out .exit)) r ⌝ }
 {
     let flow = f.flow;
@@ -49,7 +53,7 @@ fn unit_line(out: &mut [u8; ROOM], at: usize, k: usize, f: UnitFigures) -> usize
 
 // The lines of the first n aquifers.
 fn aquifer_lines(out: &mut [u8; ROOM], at: usize, aquifers: [AquiferFigures; 32], n: usize) -> usize
-    requires { ⌜ (n ≤ 32) × (at + 4096 ≤ 1048576) ⌝ }
+    requires { ⌜ (n ≤ 32) × (at + 4096 ≤ 1064960) ⌝ }
     ensures { λ r. ⌜ Written 4096 (now (out .entry)) at (text.linesOf n (λ k. text.aquiferText (getD aquifers k noAquiferFigures) k)) (now (out .exit)) r ⌝ }
 {
     let mut p = report::no_line(out, at);
@@ -64,7 +68,7 @@ fn aquifer_lines(out: &mut [u8; ROOM], at: usize, aquifers: [AquiferFigures; 32]
 
 // The line of the aquifer at an index.
 fn aquifer_line(out: &mut [u8; ROOM], at: usize, k: usize, f: AquiferFigures) -> usize
-    requires { ⌜ (k ≤ 32) × (at + 128 ≤ 1048576) ⌝ }
+    requires { ⌜ (k ≤ 32) × (at + 128 ≤ 1064960) ⌝ }
     ensures { λ r. ⌜ Written 128 (now (out .entry)) at (text.aquiferText f k) (now (out .exit)) r ⌝ }
 {
     let recharge = f.recharge;
@@ -74,7 +78,7 @@ fn aquifer_line(out: &mut [u8; ROOM], at: usize, k: usize, f: AquiferFigures) ->
 
 // The table of a balance: its units and then its aquifers.
 fn table(out: &mut [u8; ROOM], at: usize, b: Balance) -> usize
-    requires { ⌜ at + 12288 ≤ 1048576 ⌝ }
+    requires { ⌜ at + 12288 ≤ 1064960 ⌝ }
     ensures { λ r. ⌜ Written 12288 (now (out .entry)) at (text.tableText (viewOf b)) (now (out .exit)) r ⌝ }
 {
     let n = b.unit_count;
@@ -92,9 +96,118 @@ fn table(out: &mut [u8; ROOM], at: usize, b: Balance) -> usize
     }
 }
 
+// The line of an accepted call.
+fn accepted_line(out: &mut [u8; ROOM], at: usize, k: u64, call: Call, number: u16) -> usize
+    requires { ⌜ at + 64 ≤ 1064960 ⌝ }
+    ensures { λ r. ⌜ Written 64 (now (out .entry)) at (text.acceptedText k call number) (now (out .exit)) r ⌝ }
+{
+    match call {
+        Call::Grant { title: _ } => report::call_given(out, at, k, number as u64),
+        Call::Cancel { number: _ } => report::call_cancelled(out, at, k, number as u64),
+    }
+}
+
+// The line of a call.
+fn call_line(
+    out: &mut [u8; ROOM],
+    at: usize,
+    k: u64,
+    call: Call,
+    answer: Answer,
+    number: u16,
+) -> usize
+    requires { ⌜ at + 64 ≤ 1064960 ⌝ }
+    ensures { λ r. ⌜ Written 64 (now (out .entry)) at (text.callText k call answer number) (now (out .exit)) r ⌝ }
+{
+    match answer {
+        Answer::Accepted => accepted_line(out, at, k, call, number),
+        Answer::Refused(code) => report::call_refused(out, at, k, code as u64),
+    }
+}
+
+// The position past the call lines, and what running the calls gave.
+struct Lines {
+    next: usize,
+    ran: Ran,
+}
+
+// Runs the calls of a book and puts a line for each into the buffer.
+fn call_lines(s: &[u8], from: usize, balance: Balance, out: &mut [u8; ROOM]) -> Lines
+    requires { ⌜ length (now s) ≤ 65536 ⌝ }
+    ensures { λ r. ⌜ printing.Printed (now (s .entry)) from balance (now (out .entry)) (now (out .exit)) r ⌝ }
+{
+    let mut p = report::no_line(out, 0);
+    let mut b = balance;
+    let mut at = from;
+    let mut k = 0;
+    let mut left = s.len() + 1;
+    while 0 < left {
+        left -= 1;
+        match book::call_at(s, at) {
+            CallAt::End => {
+                return Lines {
+                    next: p,
+                    ran: calls::finished(b),
+                };
+            }
+            CallAt::Fails { number } => {
+                return Lines {
+                    next: p,
+                    ran: calls::failed(number, at, b),
+                };
+            }
+            CallAt::Asks { call, to } => {
+                let reply = register::ask(b, call);
+                let answer = reply.answer;
+                k += 1;
+                p = call_line(out, p, k, call, answer, reply.number);
+                b = reply.balance;
+                at = to;
+            }
+        }
+    }
+    Lines {
+        next: p,
+        ran: calls::failed(1, at, b),
+    }
+}
+
+// The line of a record that failed, if one did.
+fn end_line(out: &mut [u8; ROOM], at: usize, answer: Answer, place: usize) -> usize
+    requires { ⌜ at + 128 ≤ 1064960 ⌝ }
+    ensures { λ r. ⌜ Written 128 (now (out .entry)) at (text.endText answer place) (now (out .exit)) r ⌝ }
+{
+    match answer {
+        Answer::Accepted => report::no_line(out, at),
+        Answer::Refused(number) => report::refused_line(out, at, number as u64, place as u64),
+    }
+}
+
+// What follows the call lines: the line of a record that failed, then the table.
+fn ran_lines(out: &mut [u8; ROOM], at: usize, ran: Ran) -> usize
+    requires { ⌜ at + 12416 ≤ 1064960 ⌝ }
+    ensures { λ r. ⌜ Written 12416 (now (out .entry)) at (text.ranText ran) (now (out .exit)) r ⌝ }
+{
+    let answer = ran.answer;
+    let place = ran.place;
+    let balance = ran.balance;
+    let p = end_line(out, at, answer, place);
+    table(out, p, balance)
+}
+
+// What is printed for an accepted description: the call lines, then what follows them.
+fn run_lines(s: &[u8], from: usize, balance: Balance, out: &mut [u8; ROOM]) -> usize
+    requires { ⌜ length (now s) ≤ 65536 ⌝ }
+    ensures { λ r. ⌜ Written 1064960 (now (out .entry)) 0 (text.runText (now (s .entry)) from balance) (now (out .exit)) r ⌝ }
+{
+    let lines = call_lines(s, from, balance, out);
+    let ran = lines.ran;
+    ran_lines(out, lines.next, ran)
+}
+
 // What is printed for a book: its bytes from the start of the buffer on, and their number.
 pub fn print_book(s: &[u8], out: &mut [u8; ROOM]) -> usize
-    ensures { λ r. ⌜ Written 12288 (now (out .entry)) 0 (text.printed (now (s .entry))) (now (out .exit)) r ⌝ }
+    ensures { λ r. ⌜ Written 1064960 (now (out .entry)) 0 (text.printed (now (s .entry))) (now (out .exit)) r ⌝ }
 {
     if 65536 < s.len() {
         return report::refused_line(out, 0, 21, 65536);
@@ -104,7 +217,7 @@ pub fn print_book(s: &[u8], out: &mut [u8; ROOM]) -> usize
     let place = o.place;
     let balance = o.balance;
     match answer {
-        Answer::Accepted => table(out, 0, balance),
+        Answer::Accepted => run_lines(s, place, balance, out),
         Answer::Refused(number) => report::refused_line(out, 0, number as u64, place as u64),
     }
 }

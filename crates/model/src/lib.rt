@@ -55,6 +55,12 @@ pub enum Answer {
     Refused(u8),
 }
 
+// What a call asks: a title to be granted (GU, GA, TU, TA), or the number of a title to be cancelled (CA).
+pub enum Call {
+    Grant { title: Title },
+    Cancel { number: u16 },
+}
+
 // The first of some places at which a test holds, if there is one.
 pub enum Found {
     At(usize),

@@ -14,10 +14,10 @@ use Rattle.model.specs.declared.Answer.{Answer}
 use Rattle.model.specs.declared.Answer.the-variants.{Accepted, Refused}
 use Rattle.model.specs.declared.Balance.{Balance}
 use Rattle.model.specs.View.{View, viewOf}
-use Rattle.titles.specs.Adds.{adds, placeAdds, titled}
+use Rattle.titles.specs.Adds.{adds, titled}
 use Rattle.titles.specs.declared.Slot.{Slot}
 use Rattle.titles.specs.declared.Slot.the-variants.{Extraction, Exports, Imports, Returns, WellExtraction}
-use Rattle.titles.proofs.Adding.{places-more, places-same}
+use Rattle.titles.proofs.Adding.{place-granted}
 use Rattle.river.specs.Flow.{flow, net, downstream, Ready}
 use Rattle.river.proofs.Flows.{net-parts}
 use Rattle.laws.proofs.Every.{every-each}
@@ -92,13 +92,8 @@ module _ (v : View) (t : Title) (s : Soundness v) (g : Granting v t) where
   -- What the titles in force add together, with one more.
   one-more : (k : Slot) (j : ℕ) → titled (granted v t) (suc (v .given)) k j ≡ titled v (v .given) k j + adds t k j
   one-more k j =
-      let f = granted v t .place in
-      ap (λ (n : ℕ). titled (granted v t) n k j) (omega arith)
-      ∙ places-more k j (v .given) f
-      ∙ (λ i. places-same k j (v .given) f (v .place) (λ m h. rw (ne-eqb m (v .given) (omega arith)) refl) i + newest i)
-    where
-      newest : placeAdds (granted v t .place (v .given)) k j ≡ adds t k j
-      newest = rw (eq-eqb (v .given) (v .given) refl) refl
+      place-granted k j (v .given) (v .place) (granted v t .place) t (λ m h. rw (ne-eqb m (v .given) (omega arith)) refl)
+      (rw (eq-eqb (v .given) (v .given) refl) refl)
 
   place-stays : (k : ℕ) → k < suc (v .given) → PlaceSound (v .units) (v .aquifers) (granted v t .place k)
   place-stays k h =

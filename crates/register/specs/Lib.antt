@@ -4,3 +4,4 @@ pub mod Reply
 pub mod Steps
 pub mod Effect
 pub mod Cancel
+pub mod Calls

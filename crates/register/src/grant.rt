@@ -38,7 +38,7 @@ fn settle(b: Balance, t: Title) -> Reply
 }
 
 // The reply to a grant, on every balance.
-fn grant(b: Balance, t: Title) -> Reply
+pub fn grant(b: Balance, t: Title) -> Reply
     ensures { λ r. ⌜ r ≡ replies.grantReply b t ⌝ }
 {
     if !basin::sound(b) {

@@ -1,15 +1,18 @@
 // The register: titles granted, transferred and cancelled, each call from a balance to a reply.
-mod cancel;
+mod asked;
 mod effect;
 mod grant;
 mod outcome;
 mod refusal;
+mod taking_back;
 mod water;
 
+pub use asked::ask;
 pub use grant::bring;
 pub use grant::pump;
 pub use grant::transfer;
 pub use grant::withdraw;
+pub use taking_back::cancel;
 
 // The reply of a call: the answer, the title's number (0 if refused) and the balance.
 pub struct Reply {

@@ -1,5 +1,5 @@
 // The lines that the program prints. Each function puts one line into a lent buffer at a position, and
-// answers the position past it. A line is at most 128 bytes long.
+// answers the position past it. A line is at most 128 bytes long, a call's line at most 64.
 ghost use Prim.Native.Nat.{_+_, _≤_};
 ghost use mathlib.Core.Path.{_≡_};
 ghost use mathlib.Core.List.{[]};
@@ -8,19 +8,19 @@ ghost use Rattle.report.specs.Text.{unitLine, aquiferLine, refusedLine, 
 
 mod piece;
 
-// The size of the buffer.
-pub const ROOM: usize = 1048576;
+// The size of the buffer: room for 16,384 call lines, as many as a book of 65,536 bytes can have calls, and for the table.
+pub const ROOM: usize = 1064960;
 
 // A buffer of zeros.
 pub fn blank() -> [u8; ROOM]
-    ensures { λ r. ⌜ r ≡ replicate 1048576 0 ⌝ }
+    ensures { λ r. ⌜ r ≡ replicate 1064960 0 ⌝ }
 {
     [0; ROOM]
 }
 
 // No line. A caller that writes lines in a loop starts from this.
 pub fn no_line(out: &mut [u8; ROOM], at: usize) -> usize
-    requires { ⌜ at ≤ 1048576 ⌝ }
+    requires { ⌜ at ≤ 1064960 ⌝ }
     ensures { λ r. ⌜ Written 0 (now (out .entry)) at [] (now (out .exit)) r ⌝ }
 {
     let line: &mut [u8] = out;
@@ -37,7 +37,7 @@ pub fn unit_line(
     reserve: u64,
     availability: i64,
 ) -> usize
-    requires { ⌜ at + 128 ≤ 1048576 ⌝ }
+    requires { ⌜ at + 128 ≤ 1064960 ⌝ }
     ensures { λ r. ⌜ Written 128 (now (out .entry)) at (unitLine number flow committed reserve availability) (now (out .exit)) r ⌝ }
 {
     let line: &mut [u8] = out;
@@ -58,7 +58,7 @@ pub fn aquifer_line(
     recharge: i64,
     availability: i64,
 ) -> usize
-    requires { ⌜ at + 128 ≤ 1048576 ⌝ }
+    requires { ⌜ at + 128 ≤ 1064960 ⌝ }
     ensures { λ r. ⌜ Written 128 (now (out .entry)) at (aquiferLine number recharge availability) (now (out .exit)) r ⌝ }
 {
     let line: &mut [u8] = out;
@@ -71,7 +71,7 @@ pub fn aquifer_line(
 
 // `refused N at P`: the refusal's number and its place.
 pub fn refused_line(out: &mut [u8; ROOM], at: usize, number: u64, place: u64) -> usize
-    requires { ⌜ at + 128 ≤ 1048576 ⌝ }
+    requires { ⌜ at + 128 ≤ 1064960 ⌝ }
     ensures { λ r. ⌜ Written 128 (now (out .entry)) at (refusedLine number place) (now (out .exit)) r ⌝ }
 {
     let line: &mut [u8] = out;
@@ -84,8 +84,8 @@ pub fn refused_line(out: &mut [u8; ROOM], at: usize, number: u64, place: u64) ->
 
 // `call K given N`: the call's place among the calls and the number of the title.
 pub fn call_given(out: &mut [u8; ROOM], at: usize, k: u64, n: u64) -> usize
-    requires { ⌜ at + 128 ≤ 1048576 ⌝ }
-    ensures { λ r. ⌜ Written 128 (now (out .entry)) at (callGiven k n) (now (out .exit)) r ⌝ }
+    requires { ⌜ at + 64 ≤ 1064960 ⌝ }
+    ensures { λ r. ⌜ Written 64 (now (out .entry)) at (callGiven k n) (now (out .exit)) r ⌝ }
 {
     let line: &mut [u8] = out;
     call_line(line, at, k, b"given", n)
@@ -93,8 +93,8 @@ pub fn call_given(out: &mut [u8; ROOM], at: usize, k: u64, n: u64) -> usize
 
 // `call K refused N`: the call's place among the calls and the refusal's number.
 pub fn call_refused(out: &mut [u8; ROOM], at: usize, k: u64, n: u64) -> usize
-    requires { ⌜ at + 128 ≤ 1048576 ⌝ }
-    ensures { λ r. ⌜ Written 128 (now (out .entry)) at (callRefused k n) (now (out .exit)) r ⌝ }
+    requires { ⌜ at + 64 ≤ 1064960 ⌝ }
+    ensures { λ r. ⌜ Written 64 (now (out .entry)) at (callRefused k n) (now (out .exit)) r ⌝ }
 {
     let line: &mut [u8] = out;
     call_line(line, at, k, b"refused", n)
@@ -102,8 +102,8 @@ pub fn call_refused(out: &mut [u8; ROOM], at: usize, k: u64, n: u64) -> usize
 
 // `call K cancelled N`: the call's place among the calls and the number of the title cancelled.
 pub fn call_cancelled(out: &mut [u8; ROOM], at: usize, k: u64, n: u64) -> usize
-    requires { ⌜ at + 128 ≤ 1048576 ⌝ }
-    ensures { λ r. ⌜ Written 128 (now (out .entry)) at (callCancelled k n) (now (out .exit)) r ⌝ }
+    requires { ⌜ at + 64 ≤ 1064960 ⌝ }
+    ensures { λ r. ⌜ Written 64 (now (out .entry)) at (callCancelled k n) (now (out .exit)) r ⌝ }
 {
     let line: &mut [u8] = out;
     call_line(line, at, k, b"cancelled", n)
@@ -111,9 +111,9 @@ pub fn call_cancelled(out: &mut [u8; ROOM], at: usize, k: u64, n: u64) -> usize
 
 // `call K W N`: the call's place among the calls, the word for its outcome, and a number.
 fn call_line(line: &mut [u8], at: usize, k: u64, outcome: &[u8], n: u64) -> usize
-    requires { ⌜ length (now outcome) ≤ 80 ⌝ }
-    requires { ⌜ at + 128 ≤ length (now line) ⌝ }
-    ensures { λ r. ⌜ Written 128 (now (line .entry)) at (callLine k (now (outcome .entry)) n) (now (line .exit)) r ⌝ }
+    requires { ⌜ length (now outcome) ≤ 16 ⌝ }
+    requires { ⌜ at + 64 ≤ length (now line) ⌝ }
+    ensures { λ r. ⌜ Written 64 (now (line .entry)) at (callLine k (now (outcome .entry)) n) (now (line .exit)) r ⌝ }
 {
     let a = piece::word(line, at, b"call");
     let b = piece::number(line, a, k);

@@ -11,6 +11,7 @@ use native.Mathlib.Omega.{arith}
 use Rattle.laws.specs.Sum.{naturals, sumOf}
 use Rattle.laws.proofs.Cases.{by-eq}
 use Rattle.laws.proofs.Gathering.{sum-same, sum-bounded}
+use Rattle.model.specs.declared.Title.{Title}
 use Rattle.model.specs.declared.Place.{Place}
 use Rattle.model.specs.Fresh.{emptyPlace}
 use Rattle.titles.specs.declared.Slot.{Slot}
@@ -60,6 +61,12 @@ module _ (s : Slot) (j : ℕ) where
 
   in-force : (p : Place) → p .«in_force» ≡ true → placeAdds p s j ≡ adds (p .title) s j
   in-force p e = rw e
+
+  -- A title that comes into force under the next number adds what it adds.
+  pub place-granted : (n : ℕ) (f g : ℕ → Place) (t : Title) → ((k : ℕ) → k < n → g k ≡ f k) → g n ≡ record { title = t; «in_force» = true }
+      → sumOf naturals (suc n) (λ k. placeAdds (g k) s j) ≡ sumOf naturals n (λ k. placeAdds (f k) s j) + adds t s j
+  unfolding sumOf
+  place-granted n f g t e p = λ i. places-same n g f e i + placeAdds (p i) s j
 
   -- A title that goes out of force takes exactly what it added.
   pub place-cancelled : (n i : ℕ) (f g : ℕ → Place) → i < n → f i .«in_force» ≡ true → g i .«in_force» ≡ false

@@ -1,4 +1,4 @@
-//! Writes the boundary books and what the program prints of their descriptions.
+//! Writes the boundary books and what the program prints for each.
 
 use std::path::Path;
 use std::process::ExitCode;
@@ -21,7 +21,7 @@ fn main() -> ExitCode {
 fn write(folder: &Path) -> std::io::Result<()> {
     std::fs::create_dir_all(folder)?;
     for named in reference::boundary::books() {
-        let out = reference::run_description(&named.book);
+        let out = reference::run(&named.book);
         std::fs::write(folder.join(format!("{}.book", named.name)), &named.book)?;
         std::fs::write(folder.join(format!("{}.out", named.name)), out)?;
     }

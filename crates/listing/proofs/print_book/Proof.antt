@@ -1,11 +1,10 @@
 -- `listing::print_book` meets its contract. Assumes nothing.
 use mathlib.Core.Path.{sym, ap, _∙_}
 use native.Mathlib.Omega.{arith}
-use Rattle.model.specs.View.{viewOf}
 use Rattle.book.specs.declared.Opened.{Opened}
 use Rattle.report.specs.Text.{refusedLine}
 use Rattle.report.proofs.Writing.{widen, restate}
-use Rattle.listing.specs.Listing.{tableText}
+use Rattle.listing.specs.Listing.{runText}
 use Rattle.listing.proofs.Tables.{printed-long, printed-accepted, printed-refused}
 use borrow.Author.Needs.{needs}
 use Rattle.listing.proofs.print_book.Statement.{statement}
@@ -23,8 +22,8 @@ read-book-requires c κs = search needs
 enum-told : tie.Need-enum-told
 enum-told c = search needs
 
-table-requires : tie.Need-table-requires
-table-requires c κs = search needs
+run-lines-requires : tie.Need-run-lines-requires
+run-lines-requires c κs = search needs
 
 enum-known-answer : tie.Need-enum-known-answer
 enum-known-answer c = search needs
@@ -39,8 +38,8 @@ returns-2 : tie.Need-returns-2
 returns-2 c =
     let s = c .before .before .before .before .before .before .before .before .args .s .now in
     let r = c .before .before .before .before .before .read-book .ensures in
-    restate (c .table .ensures)
-    (ap (λ (o : Opened). tableText (viewOf (o .balance))) r
+    restate (c .run-lines .ensures)
+    (ap (λ (o : Opened). runText s (o .place) (o .balance)) r
     ∙ printed-accepted s (c .before .before .before .before .before .before .if1 .left) (ap (λ (o : Opened). o .answer) (sym r) ∙ c .before .before .enum-told .given .1))
 
 returns-3 : tie.Need-returns-3
@@ -61,7 +60,7 @@ print-book-spec =
     returns
     read-book-requires
     enum-told
-    table-requires
+    run-lines-requires
     enum-known-answer
     cast-refused-line
     refused-line-requires-2

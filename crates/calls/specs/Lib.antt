@@ -1,0 +1,2 @@
+-- The calls of a book, run over a balance.
+pub mod Running

@@ -1,0 +1,63 @@
+// The calls of a book, run over a balance one after the other.
+ghost use mathlib.Core.Path.{_≡_};
+ghost use Rattle.book.specs.Calls as ends;
+ghost use Rattle.calls.specs.Running as running;
+use book::CallAt;
+use model::Answer;
+use model::Balance;
+
+// What running the calls of a book gives: accepted, or the number and place of the record that fails with 1 or 2, and the balance after
+// the calls before it.
+pub struct Ran {
+    pub answer: Answer,
+    pub place: usize,
+    pub balance: Balance,
+}
+
+// Runs every call that stands in a book from an offset on.
+pub fn run(s: &[u8], from: usize, balance: Balance) -> Ran
+    ensures { λ r. ⌜ r ≡ running.ran (now (s .entry)) from balance ⌝ }
+{
+    let mut b = balance;
+    let mut at = from;
+    let mut left = s.len() + 1;
+    while 0 < left {
+        left -= 1;
+        match book::call_at(s, at) {
+            CallAt::End => {
+                return finished(b);
+            }
+            CallAt::Fails { number } => {
+                return failed(number, at, b);
+            }
+            CallAt::Asks { call, to } => {
+                let reply = register::ask(b, call);
+                b = reply.balance;
+                at = to;
+            }
+        }
+    }
+    failed(1, at, b)
+}
+
+// The book ended with its calls.
+pub fn finished(b: Balance) -> Ran
+    ensures { λ r. ⌜ r ≡ running.ranAs ends.finished b ⌝ }
+{
+    Ran {
+        answer: Answer::Accepted,
+        place: 0,
+        balance: b,
+    }
+}
+
+// A record failed.
+pub fn failed(number: u8, at: usize, b: Balance) -> Ran
+    ensures { λ r. ⌜ r ≡ running.ranAs (ends.failed number at) b ⌝ }
+{
+    Ran {
+        answer: Answer::Refused(number),
+        place: at,
+        balance: b,
+    }
+}

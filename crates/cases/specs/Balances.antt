@@ -1,0 +1,150 @@
+-- The balances that the printed book goes through, written out: the one that it opens and those that its calls leave. Assumes nothing.
+use Prim.Native.Nat.{ℕ}
+use mathlib.Core.Path.{_≡_, refl, sym, subst}
+use mathlib.Core.Bool.{true, false}
+use mathlib.Core.List.{List, [], _∷_}
+use lib.ListN.{replicate}
+use lib.IntN.{pos, negsuc}
+use Rattle.laws.specs.Sum.{sumOf, every}
+use Rattle.laws.specs.Gather.{gather, gatherTo}
+use Rattle.laws.specs.Table.{table, tabulate}
+use Rattle.model.specs.declared.Unit.{Unit}
+use Rattle.model.specs.declared.Place.{Place}
+use Rattle.model.specs.declared.Title.{Title}
+use Rattle.model.specs.declared.Title.the-variants.{UnitWithdrawal, AquiferWithdrawal, AquiferTransfer}
+use Rattle.model.specs.declared.Call.{Call}
+use Rattle.model.specs.declared.Call.the-variants.{Grant}
+use Rattle.model.specs.declared.Balance.{Balance}
+use Rattle.model.specs.declared.Answer.the-variants.{Accepted, Refused}
+use Rattle.model.specs.Fresh.{emptyUnit, emptyAquifer, emptyPlace}
+use Rattle.model.specs.View.{viewOf}
+use Rattle.model.specs.Answers.{firstFrom}
+use Rattle.runoff.specs.Soil.{coefficient, coefficients}
+use Rattle.runoff.specs.Year.{rainYear}
+use Rattle.runoff.specs.Mean.{rounded}
+use Rattle.river.specs.Flow.{flow}
+use Rattle.river.specs.Reserve.{committedTo, committed}
+use Rattle.basin.specs.Sound.{sound}
+use Rattle.reach.specs.Reach.{outletTo, outlet}
+use Rattle.book.specs.declared.Opened.{Opened}
+use Rattle.book.specs.Reading.{next, readingFrom, opened}
+use Rattle.book.specs.Calls.{finished, callAt, callsFrom, callsOf, endingFrom, endingOf}
+use Rattle.book.proofs.Promises.{opening-sound}
+use Rattle.register.specs.Grant.{granted, noWater}
+use Rattle.register.specs.Reply.{grantReply}
+use Rattle.register.proofs.Replies.{reply-given, reply-dry}
+use Rattle.cases.specs.Printed.{printedDescription, printedCalls, printedBook}
+
+-- A unit with these entries, and 0 in all others.
+unit : ℕ → ℕ → ℕ → ℕ → ℕ → ℕ → Unit
+unit downstream extraction imports returns commitment runoff =
+    record {
+      downstream = downstream;
+      extraction = extraction;
+      exports = 0;
+      imports = imports;
+      returns = returns;
+      evaporation = 0;
+      storage = pos 0;
+      commitment = commitment;
+      runoff = runoff;
+    }
+
+-- The printed book's balance with the entries that its calls change: unit 3's extraction, imports and returns, the aquifer's extraction,
+-- and the titles.
+bookBalance : ℕ → ℕ → ℕ → ℕ → List Place → ℕ → Balance
+unfolding unit
+bookBalance extraction imports returns pumping titles given =
+    record {
+      units = unit 3 0 0 0 0 10080 ∷ unit 3 0 0 0 0 1540 ∷ unit 0 extraction imports returns 1000 1540 ∷ replicate 61 emptyUnit;
+      «unit_count» = 3;
+      aquifers =
+          record { storage = negsuc 199; natural = 900; pumped = 1300; committed = 500; extraction = pumping } ∷ replicate 31 emptyAquifer;
+      «aquifer_count» = 1;
+      titles = titles;
+      given = given;
+    }
+
+-- The titles that the four calls ask for.
+abbrev pub firstTitle : Title
+firstTitle = UnitWithdrawal 3 1 2000
+
+abbrev pub secondTitle : Title
+secondTitle = UnitWithdrawal 2 1 2000
+
+abbrev pub thirdTitle : Title
+thirdTitle = AquiferWithdrawal 1 250
+
+abbrev pub fourthTitle : Title
+fourthTitle = AquiferTransfer 1 3 200
+
+abbrev inForce : Title → Place
+inForce t = record { title = t; «in_force» = true }
+
+-- Before the calls, after call 1 (which calls 2 and 3 leave), and after call 4.
+unfoldable pub printedBalance : Balance
+unfolding bookBalance
+printedBalance = bookBalance 3000 0 0 1300 (replicate 256 emptyPlace) 0
+
+unfoldable pub firstBalance : Balance
+unfolding bookBalance
+firstBalance = bookBalance 5000 0 400 1300 (inForce firstTitle ∷ replicate 255 emptyPlace) 1
+
+unfoldable pub lastBalance : Balance
+unfolding bookBalance
+lastBalance = bookBalance 5000 200 400 1500 (inForce firstTitle ∷ inForce fourthTitle ∷ replicate 254 emptyPlace) 2
+
+-- Opening the printed book gives the first of them, which is sound as every balance that is opened.
+pub printed-opens : opened printedBook ≡ record { answer = Accepted; place = 379; balance = printedBalance }
+unfolding printedBook printedDescription printedCalls printedBalance readingFrom next table tabulate firstFrom flow gather gatherTo sumOf rainYear coefficient coefficients rounded
+printed-opens = refl
+
+pub printed-sound : sound (viewOf printedBalance) ≡ true
+printed-sound = subst (λ (o : Opened). sound (viewOf (o .balance)) ≡ true) printed-opens (opening-sound printedBook)
+
+-- Call 1 is given: there is water in unit 3's basin.
+first-water : noWater (granted (viewOf printedBalance) firstTitle) firstTitle ≡ false
+unfolding printedBalance flow gather gatherTo sumOf committed committedTo every outlet outletTo
+first-water = refl
+
+pub first-reply : grantReply printedBalance firstTitle ≡ record { answer = Accepted; number = 1; balance = firstBalance }
+unfolding printedBalance firstBalance
+first-reply = sym (reply-given printedBalance firstTitle printed-sound refl first-water)
+
+pub first-sound : sound (viewOf firstBalance) ≡ true
+unfolding sound firstBalance flow gather gatherTo sumOf every
+first-sound = refl
+
+-- Calls 2 and 3 are refused: unit 2's flow, and the aquifer's availability, would fall under 0.
+second-water : noWater (granted (viewOf firstBalance) secondTitle) secondTitle ≡ true
+unfolding firstBalance flow gather gatherTo sumOf committed committedTo every outlet outletTo
+second-water = refl
+
+pub second-reply : grantReply firstBalance secondTitle ≡ record { answer = Refused 17; number = 0; balance = firstBalance }
+unfolding firstBalance
+second-reply = sym (reply-dry firstBalance secondTitle first-sound refl second-water)
+
+pub third-reply : grantReply firstBalance thirdTitle ≡ record { answer = Refused 17; number = 0; balance = firstBalance }
+unfolding firstBalance
+third-reply = sym (reply-dry firstBalance thirdTitle first-sound refl refl)
+
+-- Call 4 is given: the aquifer's availability falls to 0.
+pub fourth-reply : grantReply firstBalance fourthTitle ≡ record { answer = Accepted; number = 2; balance = lastBalance }
+unfolding firstBalance lastBalance
+fourth-reply = sym (reply-given firstBalance fourthTitle first-sound refl refl)
+
+pub last-sound : sound (viewOf lastBalance) ≡ true
+unfolding sound lastBalance flow gather gatherTo sumOf every
+last-sound = refl
+
+-- The calls that stand in the book, and that it ends with them.
+abbrev pub theCalls : List Call
+theCalls = Grant firstTitle ∷ Grant secondTitle ∷ Grant thirdTitle ∷ Grant fourthTitle ∷ []
+
+pub calls-are : callsOf printedBook 379 ≡ theCalls
+unfolding printedBook printedDescription printedCalls callsFrom callAt
+calls-are = refl
+
+pub ending-is : endingOf printedBook 379 ≡ finished
+unfolding printedBook printedDescription printedCalls endingFrom callAt
+ending-is = refl

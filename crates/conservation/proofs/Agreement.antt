@@ -1,0 +1,96 @@
+-- The program's replies are the tally's, call by call. Assumes nothing.
+use Prim.Native.Nat.{ℕ, _+_}
+use mathlib.Core.Path.{_≡_, refl, sym, ap, _∙_}
+use mathlib.Core.Logic.{_↔_}
+use mathlib.Core.Bool.{Bool, true, false, true≢false}
+use mathlib.Core.List.{List, [], _∷_, _++_}
+use native.Mathlib.Omega.{arith}
+use Rattle.model.specs.declared.Call.{Call}
+use Rattle.model.specs.declared.Call.the-variants.{Grant, Cancel}
+use Rattle.model.specs.declared.Answer.the-variants.{Accepted, Refused}
+use Rattle.model.specs.declared.Balance.{Balance}
+use Rattle.model.specs.View.{View, viewOf}
+use Rattle.model.specs.Answers.{Refusal, none, number}
+use Rattle.book.specs.Reading.{Description, read, reading, opened}
+use Rattle.register.specs.declared.Reply.{Reply}
+use Rattle.register.specs.Grant.{grantRefusal}
+use Rattle.register.specs.Cancel.{cancelRefusal}
+use Rattle.register.specs.Reply.{afterTest, replied}
+use Rattle.register.specs.Calls.{callRefusal, callReply, after}
+use Rattle.register.proofs.Staying.{not-refused}
+use Rattle.conservation.specs.Demand3.{Tally, start, tallyRefusal, unlessRefused, tallied}
+use Rattle.conservation.specs.Replies.{Said, replies, numberFor, saying, sayings, counts, acceptances}
+use Rattle.conservation.proofs.Following.{Follows, changed, carried, replied-to, same-refusal, follows-start, follows-call}
+
+-- What a reply says.
+abbrev saidBy : Reply → Said
+saidBy r = record { answer = r .answer; number = r .number }
+
+said-by : (r : Refusal) (old new : Balance) (n : ℕ) → saidBy (replied r old new n) ≡ saying r n
+said-by none old new n = refl
+said-by (number k) old new n = refl
+
+module _ (d : Description) (b : Balance) (t : Tally) (f : Follows d b t) where
+  -- An accepted call carries the tally's number.
+  same-number : (c : Call) → carried b c ≡ numberFor t c
+  same-number (Grant x) = omega (arith, ap (λ (v : View). v .given) (f .same))
+  same-number (Cancel n) = refl
+
+  same-saying : (c : Call) → saidBy (callReply b c) ≡ saying (tallyRefusal d t c) (numberFor t c)
+  same-saying c =
+      ap saidBy (replied-to b c (f .stands))
+      ∙ said-by (callRefusal (viewOf b) c) b (changed b c) (carried b c)
+      ∙ (λ i. saying (same-refusal d b t f c i) (same-number c i))
+
+-- A balance that follows the tally gets the tally's replies.
+followed : (d : Description) (b : Balance) (t : Tally) → Follows d b t → (cs : List Call) → replies b cs ≡ sayings d t cs
+unfolding replies sayings
+followed d b t f [] = refl
+followed d b t f (c ∷ cs) = λ i.
+    same-saying d b t f c i ∷ followed d (callReply b c .balance) (unlessRefused (tallyRefusal d t c) t c) (follows-call d b t f c) cs i
+
+-- On every accepted book and every list of calls, the program accepts and refuses as the tally does, under the same numbers.
+pub replies-agree : (s : List ℕ) (d : Description) (at : ℕ) → reading s ≡ read d at → (cs : List Call) → replies (opened s .balance) cs ≡ sayings d start cs
+replies-agree s d at e = followed d (opened s .balance) start (follows-start s d at e)
+
+keeps : (r : Refusal) (old new : Balance) (m n : ℕ) → replied r old new m .answer ≡ Refused n
+    → (replied r old new m .balance ≡ old) × (replied r old new m .number ≡ 0)
+keeps none old new m n e = absurd (not-refused n (replied none old new m) e refl)
+keeps (number k) old new m n e = (refl, refl)
+
+-- A refused call returns the balance handed to it, whatever that is, and 0 as the title's number.
+pub refused-keeps : (b : Balance) (c : Call) (n : ℕ) → callReply b c .answer ≡ Refused n → (callReply b c .balance ≡ b) × (callReply b c .number ≡ 0)
+refused-keeps b (Grant x) n e = keeps (afterTest b (grantRefusal (viewOf b) x)) b (changed b (Grant x)) (carried b (Grant x)) n e
+refused-keeps b (Cancel k) n e = keeps (afterTest b (cancelRefusal (viewOf b) k)) b (changed b (Cancel k)) k n e
+
+one-count : (r : Refusal) (t : Tally) (c : Call) → unlessRefused r t c .last ≡ t .last + counts r c
+one-count none t (Grant x) = omega arith
+one-count none t (Cancel n) = omega arith
+one-count (number k) t c = omega arith
+
+-- The last number counts the grants that were accepted; a cancellation neither gives a number nor frees one.
+pub numbers-count : (d : Description) (t : Tally) (cs : List Call) → tallied d t cs .last ≡ t .last + acceptances d t cs
+unfolding tallied acceptances
+numbers-count d t [] = omega arith
+numbers-count d t (c ∷ cs) =
+    omega (arith, numbers-count d (unlessRefused (tallyRefusal d t c) t c) cs, one-count (tallyRefusal d t c) t c)
+
+-- A call after a list of calls gets the balance that the call before returned.
+pub after-list : (b : Balance) (cs : List Call) (c : Call) → after b (cs ++ (c ∷ [])) ≡ callReply (after b cs) c .balance
+unfolding after
+after-list b [] c = refl
+after-list b (x ∷ xs) c = after-list (callReply b x .balance) xs c
+
+abbrev is-none : Refusal → Bool
+is-none none = true
+is-none (number n) = false
+
+replied-exactly : (r : Refusal) (old new : Balance) (n : ℕ) → (replied r old new n .answer ≡ Accepted) ↔ (r ≡ none)
+replied-exactly none old new n = (λ e. refl, λ e. refl)
+replied-exactly (number k) old new n =
+    (λ e. absurd (not-refused k (replied (number k) old new n) refl e), λ e. absurd (true≢false (sym (ap is-none e))))
+
+-- On every balance a call is accepted exactly when no refusal that document 01 lists for it applies, 0 included.
+pub call-accepted-exactly : (b : Balance) (c : Call) → (callReply b c .answer ≡ Accepted) ↔ (afterTest b (callRefusal (viewOf b) c) ≡ none)
+call-accepted-exactly b (Grant x) = replied-exactly (afterTest b (grantRefusal (viewOf b) x)) b (changed b (Grant x)) (carried b (Grant x))
+call-accepted-exactly b (Cancel k) = replied-exactly (afterTest b (cancelRefusal (viewOf b) k)) b (changed b (Cancel k)) k

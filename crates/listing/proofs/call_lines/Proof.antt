@@ -1,0 +1,131 @@
+-- `listing::call_lines` meets its contract. Assumes nothing.
+use mathlib.Core.Path.{sym, _∙_}
+use native.Mathlib.Omega.{arith}
+use borrow.Author.Needs.{needs}
+use borrow.Author.Count.{falls-down}
+use Rattle.calls.proofs.Running.{turn-ends, turn-fails, turn-none}
+use Rattle.report.proofs.Writing.{then, widen}
+use Rattle.listing.proofs.Calling.{Printing, printing-start, lines-end, lines-fail, lines-none, printing-replies}
+use Rattle.listing.proofs.call_lines.Statement.{statement}
+use Rattle.listing.proofs.call_lines.Tie as tie
+
+abbrev Inv-loop : tie.InvT-loop
+Inv-loop s from out₀ p₀ b₀ at₀ k₀ left₀ out p b at k left = Printing s from b₀ out₀ p₀ out p b at k left
+
+abbrev μ-loop : tie.MeasureT-loop
+μ-loop s from out₀ p₀ b₀ at₀ k₀ left₀ out p b at k left = left
+
+no-line-requires : tie.Need-no-line-requires Inv-loop μ-loop
+no-line-requires c κs = search needs
+
+add-left : tie.Need-add-left Inv-loop μ-loop
+add-left c = search needs
+
+loop-holds : tie.Need-loop-holds Inv-loop μ-loop
+loop-holds c = printing-start _ _ _ _ _ _ _ (c .no-line .ensures)
+
+sub-left : tie.Need-sub-left Inv-loop μ-loop
+sub-left c = c .loop-test .taken
+
+call-at-requires : tie.Need-call-at-requires Inv-loop μ-loop
+call-at-requires c κs = search needs
+
+enum-told : tie.Need-enum-told Inv-loop μ-loop
+enum-told c = search needs
+
+finished-requires : tie.Need-finished-requires Inv-loop μ-loop
+finished-requires c κs = search needs
+
+returns : tie.Need-returns Inv-loop μ-loop
+returns c =
+    let start = c .before .before .before .before .before .before .before .before .before in
+    let turn = c .before .before .before .before .before .loop in
+    let none = c .before .before .before .before .before .before .no-line .ensures in
+    record {
+      lines =
+          widen (then none (lines-end (start .args .s .now) (start .args .from) (start .args .balance) _ _ _ _ _ _ _ _ (c .before .before .before .before .loop-test .taken) (turn .inv) (sym (c .before .before .before .call-at .ensures) ∙ c .before .enum-told .given .1)))
+          (omega (arith, turn .inv .few, start .pre));
+      result = c .finished .ensures ∙ turn-ends (start .args .s .now) _ _ _ _ (c .before .before .before .before .loop-test .taken) (turn .inv .same) (sym (c .before .before .before .call-at .ensures) ∙ c .before .enum-told .given .1);
+    }
+
+enum-known-number : tie.Need-enum-known-number Inv-loop μ-loop
+enum-known-number c = search needs
+
+failed-requires : tie.Need-failed-requires Inv-loop μ-loop
+failed-requires c κs = search needs
+
+returns-2 : tie.Need-returns-2 Inv-loop μ-loop
+returns-2 c =
+    let start = c .before .before .before .before .before .before .before .before .before .before in
+    let turn = c .before .before .before .before .before .before .loop in
+    let none = c .before .before .before .before .before .before .before .no-line .ensures in
+    record {
+      lines =
+          widen (then none (lines-fail (start .args .s .now) (start .args .from) (start .args .balance) _ _ _ _ _ _ _ _ _ (c .before .before .before .before .before .loop-test .taken) (turn .inv) (sym (c .before .before .before .before .call-at .ensures) ∙ c .before .before .number .given .1)))
+          (omega (arith, turn .inv .few, start .pre));
+      result = c .failed .ensures ∙ turn-fails (start .args .s .now) _ _ _ _ _ (c .before .before .before .before .before .loop-test .taken) (turn .inv .same) (sym (c .before .before .before .before .call-at .ensures) ∙ c .before .before .number .given .1);
+    }
+
+enum-known-call : tie.Need-enum-known-call Inv-loop μ-loop
+enum-known-call c = search needs
+
+ask-requires : tie.Need-ask-requires Inv-loop μ-loop
+ask-requires c κs = search needs
+
+add-k : tie.Need-add-k Inv-loop μ-loop
+add-k c = omega (arith, c .before .before .before .before .before .before .loop .inv .few, c .before .before .before .before .before .before .before .before .before .before .pre)
+
+call-line-requires : tie.Need-call-line-requires Inv-loop μ-loop
+call-line-requires c κs =
+    let i = c .before .before .before .before .before .before .before .loop .inv in
+    omega (arith, i .written .short, i .written .place, c .before .before .before .before .before .before .before .before .no-line .ensures .place, i .few, c .before .before .before .before .before .before .before .before .before .before .before .pre)
+
+loop-less : tie.Need-loop-less Inv-loop μ-loop
+loop-less c = falls-down _ (c .before .before .before .before .before .before .before .before .loop-test .taken)
+
+loop-again : tie.Need-loop-again Inv-loop μ-loop
+loop-again c =
+    let start = c .before .before .before .before .before .before .before .before .before .before .before .before .before in
+    printing-replies (start .args .s .now) (start .args .from) (start .args .balance) _ _ _ _ _ _ _ _ _ _ _ _ _ (c .before .before .before .ask .ensures)
+    (c .before .before .before .before .before .before .before .before .loop-test .taken) (c .before .before .before .before .before .before .before .before .before .loop .inv) (sym (c .before .before .before .before .before .before .before .call-at .ensures) ∙ c .before .before .before .before .before .call .given .1) (c .before .call-line .ensures)
+
+failed-requires-2 : tie.Need-failed-requires-2 Inv-loop μ-loop
+failed-requires-2 c κs = search needs
+
+returns-3 : tie.Need-returns-3 Inv-loop μ-loop
+returns-3 c =
+    let start = c .before .before .before .before .before .before in
+    let turn = c .before .before .loop in
+    let none = c .before .before .before .no-line .ensures in
+    record {
+      lines =
+          widen (then none (lines-none (start .args .s .now) (start .args .from) (start .args .balance) _ _ _ _ _ _ _ _ (omega arith) (turn .inv)))
+          (omega (arith, turn .inv .few, start .pre));
+      result = c .failed2 .ensures ∙ turn-none (start .args .s .now) _ _ _ _ (omega arith) (turn .inv .same);
+    }
+
+pub call-lines-spec : {M : Type 1} → statement M
+call-lines-spec =
+    tie.close
+    (tie.spec
+    Inv-loop
+    μ-loop
+    no-line-requires
+    add-left
+    loop-holds
+    sub-left
+    call-at-requires
+    enum-told
+    finished-requires
+    returns
+    enum-known-number
+    failed-requires
+    returns-2
+    enum-known-call
+    ask-requires
+    add-k
+    call-line-requires
+    loop-less
+    loop-again
+    failed-requires-2
+    returns-3)
