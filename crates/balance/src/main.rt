@@ -5,7 +5,7 @@ use libc::STDOUT_FILENO;
 fn main() {
     let mut book = [0u8; 65537];
     let n = io::read_full(STDIN_FILENO, &mut book);
-    let mut out = report::blank();
+    let mut out = [0u8; report::ROOM];
     let m = listing::print_book(&book[..n], &mut out);
     io::write_all(STDOUT_FILENO, &out[..m]);
 }

@@ -15,7 +15,7 @@ fn run(i: usize) {
     let mut book = [0u8; 65537];
     let n = io::read_full(fd, &mut book);
     libc::close(fd);
-    let mut out = report::blank();
+    let mut out = [0u8; report::ROOM];
     let m = listing::print_book(&book[..n], &mut out);
     io::write_all(STDOUT_FILENO, &out[..m]);
 }

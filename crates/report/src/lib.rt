@@ -1,22 +1,14 @@
 // The lines that the program prints. Each function puts one line into a lent buffer at a position, and
 // answers the position past it. A line is at most 128 bytes long, a call's line at most 64.
 ghost use Prim.Native.Nat.{_+_, _≤_};
-ghost use mathlib.Core.Path.{_≡_};
 ghost use mathlib.Core.List.{[]};
-ghost use lib.ListN.{length, replicate};
+ghost use lib.ListN.{length};
 ghost use Rattle.report.specs.Text.{unitLine, aquiferLine, refusedLine, callLine, callGiven, callRefused, callCancelled, Written};
 
 mod piece;
 
 // The size of the buffer: room for 16,384 call lines, as many as a book of 65,536 bytes can have calls, and for the table.
 pub const ROOM: usize = 1064960;
-
-// A buffer of zeros.
-pub fn blank() -> [u8; ROOM]
-    ensures { λ r. ⌜ r ≡ replicate 1064960 0 ⌝ }
-{
-    [0; ROOM]
-}
 
 // No line. A caller that writes lines in a loop starts from this.
 pub fn no_line(out: &mut [u8; ROOM], at: usize) -> usize

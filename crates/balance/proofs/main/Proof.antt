@@ -10,9 +10,6 @@ slice-aggregate-read-full c = search needs
 read-full-requires : tie.Need-read-full-requires
 read-full-requires c κs = search needs
 
-blank-requires : tie.Need-blank-requires
-blank-requires c κs = search needs
-
 array-share-prefix-book : tie.Need-array-share-prefix-book
 array-share-prefix-book c = search needs
 
@@ -40,7 +37,6 @@ main-spec =
     (tie.spec
     slice-aggregate-read-full
     read-full-requires
-    blank-requires
     array-share-prefix-book
     slice-aggregate-print-book
     print-book-requires

@@ -58,9 +58,6 @@ read-full-requires c κs = search needs
 close-requires : tie.Need-close-requires
 close-requires c κs = search needs
 
-blank-requires : tie.Need-blank-requires
-blank-requires c κs = search needs
-
 array-share-prefix-book : tie.Need-array-share-prefix-book
 array-share-prefix-book c = search needs
 
@@ -104,7 +101,6 @@ run-spec =
     slice-aggregate-read-full
     read-full-requires
     close-requires
-    blank-requires
     array-share-prefix-book
     slice-aggregate-print-book
     print-book-requires
