@@ -10,6 +10,7 @@ pub use flow::gathered;
 pub use search::first_negative;
 
 // The four figures of a unit.
+#[repr(C)]
 pub struct UnitFigures {
     pub flow: i64,
     pub committed: u64,
@@ -18,6 +19,7 @@ pub struct UnitFigures {
 }
 
 // The two figures of an aquifer.
+#[repr(C)]
 pub struct AquiferFigures {
     pub recharge: i64,
     pub availability: i64,

@@ -1,0 +1,2 @@
+-- What a dashboard links.
+pub mod Table
