@@ -5,6 +5,7 @@
 pub mod basin;
 pub mod book;
 pub mod boundary;
+pub mod fast;
 pub mod random;
 pub mod record;
 pub mod register;

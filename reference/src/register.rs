@@ -97,7 +97,8 @@ impl Title {
         }
     }
 
-    fn volume(&self) -> i64 {
+    /// The volume of the title.
+    pub fn volume(&self) -> i64 {
         match *self {
             Title::UnitWithdrawal { volume, .. }
             | Title::AquiferWithdrawal { volume, .. }

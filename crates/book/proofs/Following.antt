@@ -1,11 +1,14 @@
 -- The loop of opening follows the definition of reading. Assumes nothing.
 use Prim.Native.Nat.{ℕ, suc, _+_, _-_, _≤_, _<_}
 use mathlib.Core.Path.{_≡_, refl, sym, ap, _∙_, subst, subst⁻¹}
+use mathlib.Core.Bool.{Bool, cond}
 use mathlib.Core.List.{List, [], _∷_, _++_}
 use lib.ListN.{length, getD, set, length-set, replicate}
 use lib.Seq.{getD-set-same}
 use native.Mathlib.Omega.{arith}
+use borrow.Author.Tests.{eq-eqb, ne-eqb}
 use Rattle.laws.proofs.Arrays.{filled-start, filled-table}
+use Rattle.model.specs.declared.Unit.{Unit}
 use Rattle.model.specs.declared.Aquifer.{Aquifer}
 use Rattle.model.specs.declared.Balance.{Balance}
 use Rattle.model.specs.Fresh.{emptyUnit, emptyAquifer, emptyPlace, freshBalance}
@@ -14,7 +17,7 @@ use Rattle.book.specs.declared.Next.{Next}
 use Rattle.book.specs.declared.Next.the-variants.{Ends, Refused, Opens, Grows, Adds}
 use Rattle.book.specs.Record.{unitOf, noUnit}
 use Rattle.book.specs.Reading.{Description, lastUnit, withUnit, withLast, withAquifer, refused, ended, next, readingFrom, reading, openedAs, opened}
-use Rattle.book.specs.Opening.{putAquifer, stored, draft, refusedWith, endedWith, EndReady}
+use Rattle.book.specs.Opening.{putUnit, putAquifer, stored, draft, refusedWith, endedWith, EndReady}
 use Rattle.book.proofs.Facts.{Facts, OpensFacts, next-facts}
 use Rattle.book.proofs.Growing.{Good, good-start, good-unit, good-last, good-aquifer, draft-unit, draft-last, draft-aquifer, snoc-length, snoc-last}
 use Rattle.book.proofs.Finishing.{ended-is, end-ready}
@@ -122,6 +125,20 @@ module _ (s : List ℕ) (b : Balance) (unit : UnitRecord) (units aquifers at lef
         within = f .within;
         same = sym (from-opens (left - 1) s at x v to (found (Opens v to) e)) ∙ allowed;
       }
+
+  -- The first unit: there is none before it to be put in.
+  pub reached-first : units ≡ 0 → (v : UnitRecord) (to : ℕ) → next s at unit units aquifers ≡ Opens v to → Reached s b v 1 aquifers to (left - 1)
+  reached-first z v to e =
+      subst (λ (x : Balance). Reached s x v 1 aquifers to (left - 1)) (ap (λ (t : Bool). cond t b (putUnit b (units - 1) (unitOf unit))) (eq-eqb units 0 z))
+      (subst (λ (n : ℕ). Reached s (stored b unit units) v n aquifers to (left - 1)) (omega arith) (reached-opens v to e))
+
+  -- Another unit: the one before it is put in.
+  pub reached-next : (units ≡ 0 → ⊥) → (w : Unit) → w ≡ unitOf unit → (v : UnitRecord) (to : ℕ) → next s at unit units aquifers ≡ Opens v to
+      → Reached s (putUnit b (units - 1) w) v (units + 1) aquifers to (left - 1)
+  reached-next z w q v to e =
+      subst (λ (x : Balance). Reached s x v (units + 1) aquifers to (left - 1))
+      (ap (λ (t : Bool). cond t b (putUnit b (units - 1) (unitOf unit))) (ne-eqb units 0 z) ∙ ap (putUnit b (units - 1)) (sym q))
+      (reached-opens v to e)
 
   pub reached-grows : (v : UnitRecord) (to : ℕ) → next s at unit units aquifers ≡ Grows v to → Reached s b v units aquifers to (left - 1)
   reached-grows v to e =

@@ -43,15 +43,6 @@ fn stored(mut b: Balance, u: UnitRecord, n: usize) -> Balance
     b
 }
 
-// The balance with an aquifer put in.
-fn with_aquifer(mut b: Balance, k: usize, a: Aquifer) -> Balance
-    requires { ⌜ k < 32 ⌝ }
-    ensures { λ r. ⌜ r ≡ opening.putAquifer b k a ⌝ }
-{
-    b.aquifers[k] = a;
-    b
-}
-
 // The lowest-numbered unit whose downstream number is above the last unit's, if there is one.
 fn first_missing(b: Balance) -> Found
     requires { ⌜ viewOf b .units ≤ 64 ⌝ }
@@ -157,7 +148,15 @@ pub fn read_book(s: &[u8]) -> Opened
                 return refused(number, place);
             }
             Next::Opens { unit: opens, to } => {
-                b = stored(b, unit, units);
+                if units == 0 {
+                    unit = opens;
+                    units = 1;
+                    at = to;
+                    continue;
+                }
+                let last = units - 1;
+                let closed = unit_of(unit);
+                b.units[last] = closed;
                 unit = opens;
                 units += 1;
                 at = to;
@@ -167,7 +166,7 @@ pub fn read_book(s: &[u8]) -> Opened
                 at = to;
             }
             Next::Adds { aquifer, to } => {
-                b = with_aquifer(b, aquifers, aquifer);
+                b.aquifers[aquifers] = aquifer;
                 aquifers += 1;
                 at = to;
             }

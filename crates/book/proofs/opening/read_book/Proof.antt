@@ -6,7 +6,7 @@ use native.Mathlib.Omega.{arith}
 use borrow.Author.Needs.{needs}
 use borrow.Author.Count.{falls-down}
 use Rattle.book.proofs.Facts.{closing-clean}
-use Rattle.book.proofs.Following.{Reached, reached-start, reached-ends, reached-refused, opens-facts, reached-opens, reached-grows, adds-room, reached-adds, reached-over, reached-ready}
+use Rattle.book.proofs.Following.{Reached, reached-start, reached-ends, reached-refused, opens-facts, reached-first, reached-next, reached-grows, adds-room, reached-adds, reached-over, reached-ready}
 use Rattle.book.proofs.opening.read_book.Statement.{statement}
 use Rattle.book.proofs.opening.read_book.Tie as tie
 
@@ -55,46 +55,62 @@ returns-2 c = c .refused .ensures ∙ reached-refused (c .before .before .before
 enum-known-step-2 : tie.Need-enum-known-step-2 Inv-loop μ-loop
 enum-known-step-2 c = search needs
 
-stored-requires : tie.Need-stored-requires Inv-loop μ-loop
-stored-requires c κs =
-    let r = c .before .before .before .before .before .loop .inv in
-    let f = opens-facts (c .before .before .before .before .before .before .before .before .before .args .s .now) _ _ _ _ _ _ (c .before .before .before .before .before .loop .inv) (c .before .before .before .before .loop-test .taken) _ _ (sym (c .before .before .before .next .ensures) ∙ c .before .step2 .given .1) in (
-      omega (arith, r .count, r .good .few),
-      λ h. rw (r .last) (closing-clean (length (r .description .units)) (lastUnit (r .description)) (f .closing) (omega (arith, r .count)) (r .good .sane)),
-    )
-
-add-units : tie.Need-add-units Inv-loop μ-loop
-add-units c = omega (arith, c .before .before .before .before .before .before .loop .inv .count, c .before .before .before .before .before .before .loop .inv .good .few)
-
 loop-less : tie.Need-loop-less Inv-loop μ-loop
 loop-less c = falls-down _ (c .before .before .before .before .before .loop-test .taken)
 
 loop-again : tie.Need-loop-again Inv-loop μ-loop
-loop-again c = rw (c .stored .ensures) (reached-opens (c .before .before .before .before .before .before .before .before .before .before .args .s .now) _ _ _ _ _ _ (c .before .before .before .before .before .before .loop .inv) (c .before .before .before .before .before .loop-test .taken) _ _ (sym (c .before .before .before .before .next .ensures) ∙ c .before .before .step2 .given .1))
+loop-again c = reached-first (c .before .before .before .before .before .before .before .before .before .before .args .s .now) _ _ _ _ _ _ (c .before .before .before .before .before .before .loop .inv) (c .before .before .before .before .before .loop-test .taken) (c .if1 .taken) _ _ (sym (c .before .before .before .before .next .ensures) ∙ c .before .before .step2 .given .1)
+
+sub-last : tie.Need-sub-last Inv-loop μ-loop
+sub-last c = omega (arith, c .if1 .left)
+
+unit-of-requires : tie.Need-unit-of-requires Inv-loop μ-loop
+unit-of-requires c κs =
+    let r = c .before .before .before .before .before .before .loop .inv in
+    let f = opens-facts (c .before .before .before .before .before .before .before .before .before .before .args .s .now) _ _ _ _ _ _ (c .before .before .before .before .before .before .loop .inv) (c .before .before .before .before .before .loop-test .taken) _ _ (sym (c .before .before .before .before .next .ensures) ∙ c .before .before .step2 .given .1) in
+    rw (r .last) (closing-clean (length (r .description .units)) (lastUnit (r .description)) (f .closing) (omega (arith, r .count, c .if1 .left)) (r .good .sane))
+
+mul-closed : tie.Need-mul-closed Inv-loop μ-loop
+mul-closed c = omega (arith, c .before .before .before .before .before .before .before .loop .inv .count, c .before .before .before .before .before .before .before .loop .inv .good .few)
+
+element-set-from-closed : tie.Need-element-set-from-closed Inv-loop μ-loop
+element-set-from-closed c = omega (arith, c .before .before .before .before .before .before .before .loop .inv .count, c .before .before .before .before .before .before .before .loop .inv .good .few, c .before .if1 .left)
+
+add-units : tie.Need-add-units Inv-loop μ-loop
+add-units c = omega (arith, c .before .before .before .before .before .before .before .loop .inv .count, c .before .before .before .before .before .before .before .loop .inv .good .few)
+
+loop-less-2 : tie.Need-loop-less-2 Inv-loop μ-loop
+loop-less-2 c = falls-down _ (c .before .before .before .before .before .before .loop-test .taken)
+
+loop-again-2 : tie.Need-loop-again-2 Inv-loop μ-loop
+loop-again-2 c = reached-next (c .before .before .before .before .before .before .before .before .before .before .before .args .s .now) _ _ _ _ _ _ (c .before .before .before .before .before .before .before .loop .inv) (c .before .before .before .before .before .before .loop-test .taken) (c .before .if1 .left) _ (c .unit-of .ensures) _ _ (sym (c .before .before .before .before .before .next .ensures) ∙ c .before .before .before .step2 .given .1)
 
 enum-known-step-3 : tie.Need-enum-known-step-3 Inv-loop μ-loop
 enum-known-step-3 c = search needs
 
-loop-less-2 : tie.Need-loop-less-2 Inv-loop μ-loop
-loop-less-2 c = falls-down _ (c .before .before .before .before .loop-test .taken)
+loop-less-3 : tie.Need-loop-less-3 Inv-loop μ-loop
+loop-less-3 c = falls-down _ (c .before .before .before .before .loop-test .taken)
 
-loop-again-2 : tie.Need-loop-again-2 Inv-loop μ-loop
-loop-again-2 c = reached-grows (c .before .before .before .before .before .before .before .before .before .args .s .now) _ _ _ _ _ _ (c .before .before .before .before .before .loop .inv) (c .before .before .before .before .loop-test .taken) _ _ (sym (c .before .before .before .next .ensures) ∙ c .before .step3 .given .1)
+loop-again-3 : tie.Need-loop-again-3 Inv-loop μ-loop
+loop-again-3 c = reached-grows (c .before .before .before .before .before .before .before .before .before .args .s .now) _ _ _ _ _ _ (c .before .before .before .before .before .loop .inv) (c .before .before .before .before .loop-test .taken) _ _ (sym (c .before .before .before .next .ensures) ∙ c .before .step3 .given .1)
 
 enum-known-step-4 : tie.Need-enum-known-step-4 Inv-loop μ-loop
 enum-known-step-4 c = search needs
 
-with-aquifer-requires : tie.Need-with-aquifer-requires Inv-loop μ-loop
-with-aquifer-requires c κs = adds-room (c .before .before .before .before .before .before .before .before .before .args .s .now) _ _ _ _ _ _ (c .before .before .before .before .before .loop .inv) (c .before .before .before .before .loop-test .taken) _ _ (sym (c .before .before .before .next .ensures) ∙ c .before .step4 .given .1)
+mul-aquifer : tie.Need-mul-aquifer Inv-loop μ-loop
+mul-aquifer c = omega (arith, adds-room (c .before .before .before .before .before .before .before .before .before .args .s .now) _ _ _ _ _ _ (c .before .before .before .before .before .loop .inv) (c .before .before .before .before .loop-test .taken) _ _ (sym (c .before .before .before .next .ensures) ∙ c .before .step4 .given .1))
+
+element-set-from-aquifer : tie.Need-element-set-from-aquifer Inv-loop μ-loop
+element-set-from-aquifer c = adds-room (c .before .before .before .before .before .before .before .before .before .args .s .now) _ _ _ _ _ _ (c .before .before .before .before .before .loop .inv) (c .before .before .before .before .loop-test .taken) _ _ (sym (c .before .before .before .next .ensures) ∙ c .before .step4 .given .1)
 
 add-aquifers : tie.Need-add-aquifers Inv-loop μ-loop
-add-aquifers c = omega (arith, c .before .before .before .before .before .before .loop .inv .wells, c .before .before .before .before .before .before .loop .inv .good .many)
+add-aquifers c = omega (arith, adds-room (c .before .before .before .before .before .before .before .before .before .args .s .now) _ _ _ _ _ _ (c .before .before .before .before .before .loop .inv) (c .before .before .before .before .loop-test .taken) _ _ (sym (c .before .before .before .next .ensures) ∙ c .before .step4 .given .1))
 
-loop-less-3 : tie.Need-loop-less-3 Inv-loop μ-loop
-loop-less-3 c = falls-down _ (c .before .before .before .before .before .loop-test .taken)
+loop-less-4 : tie.Need-loop-less-4 Inv-loop μ-loop
+loop-less-4 c = falls-down _ (c .before .before .before .before .loop-test .taken)
 
-loop-again-3 : tie.Need-loop-again-3 Inv-loop μ-loop
-loop-again-3 c = rw (c .with-aquifer .ensures) (reached-adds (c .before .before .before .before .before .before .before .before .before .before .args .s .now) _ _ _ _ _ _ (c .before .before .before .before .before .before .loop .inv) (c .before .before .before .before .before .loop-test .taken) _ _ (sym (c .before .before .before .before .next .ensures) ∙ c .before .before .step4 .given .1))
+loop-again-4 : tie.Need-loop-again-4 Inv-loop μ-loop
+loop-again-4 c = reached-adds (c .before .before .before .before .before .before .before .before .before .args .s .now) _ _ _ _ _ _ (c .before .before .before .before .before .loop .inv) (c .before .before .before .before .loop-test .taken) _ _ (sym (c .before .before .before .next .ensures) ∙ c .before .step4 .given .1)
 
 refused-requires-2 : tie.Need-refused-requires-2 Inv-loop μ-loop
 refused-requires-2 c κs = search needs
@@ -123,17 +139,23 @@ read-book-spec =
     refused-requires
     returns-2
     enum-known-step-2
-    stored-requires
-    add-units
     loop-less
     loop-again
-    enum-known-step-3
+    sub-last
+    unit-of-requires
+    mul-closed
+    element-set-from-closed
+    add-units
     loop-less-2
     loop-again-2
-    enum-known-step-4
-    with-aquifer-requires
-    add-aquifers
+    enum-known-step-3
     loop-less-3
     loop-again-3
+    enum-known-step-4
+    mul-aquifer
+    element-set-from-aquifer
+    add-aquifers
+    loop-less-4
+    loop-again-4
     refused-requires-2
     returns-3)

@@ -1,0 +1,85 @@
+//! The books for timing do what their rows say.
+
+use comparison::rows::{self, Row, Work, CONTESTANTS};
+use reference::LONGEST_BOOK;
+
+fn all() -> Vec<Row> {
+    rows::tables()
+        .into_iter()
+        .flat_map(|(_, table)| table)
+        .map(|planned| (planned.make)())
+        .collect()
+}
+
+fn printed(book: &[u8]) -> String {
+    String::from_utf8(reference::run(book)).expect("what is printed is text")
+}
+
+#[test]
+fn every_description_is_accepted_and_no_book_is_too_long() {
+    for row in all() {
+        assert!(row.book.len() <= LONGEST_BOOK, "{}", row.name);
+        assert!(reference::book::open(&row.book).is_ok(), "{}", row.name);
+    }
+}
+
+#[test]
+fn the_largest_books_are_near_the_limit() {
+    let rows = rows::openings();
+    let lengths: Vec<usize> = rows.iter().map(|row| (row.make)().book.len()).collect();
+    assert_eq!(lengths[0], 64 * (31 + 16 * 8 + 50 * 4) + 32 * 22);
+    assert!(lengths[1] > LONGEST_BOOK - 34 && lengths[2] > LONGEST_BOOK - 34);
+}
+
+#[test]
+fn the_counted_calls_have_the_replies_that_the_rows_name() {
+    for row in all() {
+        let Work::Calls {
+            before,
+            lengths,
+            replies,
+        } = &row.work
+        else {
+            continue;
+        };
+        let text = printed(&row.book);
+        let calls: Vec<&str> = text.lines().filter(|l| l.starts_with("call ")).collect();
+        assert_eq!(calls.len(), before + lengths.len() - 1, "{}", row.name);
+        for (line, reply) in calls[*before..].iter().zip(replies.iter().cycle()) {
+            assert!(line.contains(reply), "{}: {line}", row.name);
+        }
+    }
+}
+
+#[test]
+fn the_mixed_book_has_every_kind_of_reply() {
+    let text = printed(&(rows::calls()[0].make)().book);
+    for reply in [
+        "given 256\n",
+        "cancelled",
+        "refused 15\n",
+        "refused 17\n",
+        "refused 19\n",
+        "refused 20\n",
+    ] {
+        assert!(text.contains(reply), "{reply}");
+    }
+}
+
+#[test]
+fn the_contestants_do_the_same() {
+    for row in all() {
+        if matches!(row.work, Work::Open) {
+            continue;
+        }
+        let (few, more) = row.counted;
+        for times in [few, more] {
+            let results = CONTESTANTS.map(|who| row.perform(who, times));
+            assert!(
+                results.iter().all(|r| *r == results[0]),
+                "{}: {results:?}",
+                row.name
+            );
+        }
+    }
+}
