@@ -14,10 +14,11 @@ pub struct Ran {
     pub balance: Balance,
 }
 
-// Runs every call that stands in a book from an offset on.
+// Runs every call that stands in a book from an offset on. One test for 0 serves them all: a call keeps the balance as sound as it is.
 pub fn run(s: &[u8], from: usize, balance: Balance) -> Ran
     ensures { λ r. ⌜ r ≡ running.ran (now (s .entry)) from balance ⌝ }
 {
+    let sound = basin::sound(balance);
     let mut b = balance;
     let mut at = from;
     let mut left = s.len() + 1;
@@ -31,7 +32,7 @@ pub fn run(s: &[u8], from: usize, balance: Balance) -> Ran
                 return failed(number, at, b);
             }
             CallAt::Asks { call, to } => {
-                let reply = register::ask(b, call);
+                let reply = register::ask_tested(b, sound, call);
                 b = reply.balance;
                 at = to;
             }

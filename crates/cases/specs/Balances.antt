@@ -30,7 +30,8 @@ use Rattle.book.specs.declared.Opened.{Opened}
 use Rattle.book.specs.Reading.{next, readingFrom, opened}
 use Rattle.book.specs.Calls.{finished, callAt, callsFrom, callsOf, endingFrom, endingOf}
 use Rattle.book.proofs.Promises.{opening-sound}
-use Rattle.register.specs.Grant.{granted, noWater}
+use Rattle.effect.specs.Granted.{granted}
+use Rattle.refusal.specs.Grant.{noWater}
 use Rattle.register.specs.Reply.{grantReply}
 use Rattle.register.proofs.Replies.{reply-given, reply-dry}
 use Rattle.cases.specs.Printed.{printedDescription, printedCalls, printedBook}

@@ -13,7 +13,7 @@ use Rattle.model.specs.View.{View, viewOf}
 use Rattle.model.specs.Answers.{Refusal, none, number}
 use Rattle.book.specs.Reading.{Description, read, reading, opened}
 use Rattle.register.specs.declared.Reply.{Reply}
-use Rattle.register.specs.Grant.{grantRefusal}
+use Rattle.refusal.specs.Grant.{grantRefusal}
 use Rattle.register.specs.Cancel.{cancelRefusal}
 use Rattle.register.specs.Reply.{afterTest, replied}
 use Rattle.register.specs.Calls.{callRefusal, callReply, after}

@@ -30,14 +30,16 @@ use Rattle.book.specs.Record.{unitOf, noUnit}
 use Rattle.book.specs.Reading.{Description, balanceOf, read, reading, opened}
 use Rattle.book.proofs.Promises.{opening-sound, accepted-exactly}
 use Rattle.register.specs.declared.Reply.{Reply}
-use Rattle.register.specs.Effect.{unexported}
-use Rattle.register.specs.Grant.{granted, noWater, grantRefusal}
-use Rattle.register.specs.Reply.{raiseAt, posted, postedUnits, postedWells, replied}
-use Rattle.register.specs.Cancel.{titleOf, inForce, cancelled, cancelRefusal, changeUnit, loweredUnits, loweredWells, withoutTitle}
+use Rattle.effect.specs.Effect.{unexported}
+use Rattle.effect.specs.Granted.{granted, raiseAt, posted, postedUnits, postedWells, Sized}
+use Rattle.refusal.specs.Grant.{noWater, grantRefusal}
+use Rattle.register.specs.Reply.{replied}
+use Rattle.effect.specs.Cancelled.{titleOf, cancelled, changeUnit, loweredUnits, loweredWells, withoutTitle}
+use Rattle.register.specs.Cancel.{inForce, cancelRefusal}
 use Rattle.register.specs.Calls.{callRefusal, callReply, after}
-use Rattle.register.specs.Steps.{earlyNumber, Sized}
-use Rattle.register.proofs.Granting.{judged, grant-judged}
-use Rattle.register.proofs.Posting.{posted-view}
+use Rattle.refusal.specs.Steps.{earlyNumber}
+use Rattle.refusal.proofs.Granting.{judged, grant-judged}
+use Rattle.effect.proofs.Posting.{posted-view}
 use Rattle.register.proofs.Replies.{grantable-of}
 use Rattle.register.proofs.Staying.{granted-sound}
 use Rattle.register.proofs.Cancelling.{InForce, in-force-of, one-less, without-view}

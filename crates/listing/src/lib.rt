@@ -131,12 +131,13 @@ struct Lines {
     ran: Ran,
 }
 
-// Runs the calls of a book and puts a line for each into the buffer.
+// Runs the calls of a book and puts a line for each into the buffer. One test for 0 serves them all, as in `calls::run`.
 fn call_lines(s: &[u8], from: usize, balance: Balance, out: &mut [u8; ROOM]) -> Lines
     requires { ⌜ length (now s) ≤ 65536 ⌝ }
     ensures { λ r. ⌜ printing.Printed (now (s .entry)) from balance (now (out .entry)) (now (out .exit)) r ⌝ }
 {
     let mut p = report::no_line(out, 0);
+    let sound = basin::sound(balance);
     let mut b = balance;
     let mut at = from;
     let mut k = 0;
@@ -157,7 +158,7 @@ fn call_lines(s: &[u8], from: usize, balance: Balance, out: &mut [u8; ROOM]) -> 
                 };
             }
             CallAt::Asks { call, to } => {
-                let reply = register::ask(b, call);
+                let reply = register::ask_tested(b, sound, call);
                 let answer = reply.answer;
                 k += 1;
                 p = call_line(out, p, k, call, answer, reply.number);

@@ -18,8 +18,9 @@ use Rattle.river.specs.Flow.{Ready}
 use Rattle.basin.specs.Sound.{sound, flowing}
 use Rattle.basin.proofs.Soundness.{UnitSound, AquiferSound, PlaceSound, Soundness, soundness, sound-of, ready-of}
 use Rattle.register.specs.Reply.{afterTest, replied}
-use Rattle.register.specs.Steps.{Sized}
-use Rattle.register.specs.Cancel.{loweredUnit, loweredAquifer, titleOf, inForce, cancelled, cancelRefusal, withoutTitle, cancelReply}
+use Rattle.effect.specs.Granted.{Sized}
+use Rattle.effect.specs.Cancelled.{loweredUnit, loweredAquifer, titleOf, cancelled, withoutTitle}
+use Rattle.register.specs.Cancel.{inForce, cancelRefusal, cancelReply}
 use Rattle.register.specs.declared.Reply.{Reply}
 use Rattle.register.proofs.Cancelling.{in-force-of, one-less, without-view}
 use Rattle.register.proofs.Staying.{not-refused}

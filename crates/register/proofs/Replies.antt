@@ -10,10 +10,11 @@ use Rattle.model.specs.View.{viewOf}
 use Rattle.model.specs.Answers.{Refusal, none, number, refuse}
 use Rattle.basin.specs.Sound.{sound}
 use Rattle.basin.proofs.Soundness.{soundness}
-use Rattle.register.specs.Grant.{granted, noWater, grantRefusal}
-use Rattle.register.specs.Reply.{posted, afterTest, replied, grantReply}
-use Rattle.register.specs.Steps.{earlyNumber, Grantable, Bounded}
-use Rattle.register.proofs.Granting.{judged, grant-judged, granting-of}
+use Rattle.effect.specs.Granted.{granted, posted, Grantable}
+use Rattle.refusal.specs.Grant.{noWater, grantRefusal}
+use Rattle.register.specs.Reply.{afterTest, replied, grantReply}
+use Rattle.refusal.specs.Steps.{earlyNumber, Bounded}
+use Rattle.refusal.proofs.Granting.{judged, grant-judged, granting-of}
 
 module _ (b : Balance) where
   pub bounded-of : sound (viewOf b) ≡ true → Bounded b

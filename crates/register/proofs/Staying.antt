@@ -26,13 +26,14 @@ use Rattle.basin.proofs.Soundness.{PlaceSound, Soundness, soundness, sound-of, 
 use Rattle.reach.specs.Reach.{outlet, sameBasin}
 use Rattle.reach.proofs.Ways.{outlet-same}
 use Rattle.reach.proofs.Local.{flow-outside, flow-raised}
-use Rattle.register.specs.Grant.{granted, raisedUnit, wanting, dry, noWater}
+use Rattle.effect.specs.Granted.{granted, raisedUnit, Sized}
+use Rattle.refusal.specs.Grant.{wanting, dry, noWater}
 use Rattle.register.specs.Reply.{grantReply}
-use Rattle.register.specs.Steps.{earlyNumber, Sized}
+use Rattle.refusal.specs.Steps.{earlyNumber}
 use Rattle.register.specs.declared.Reply.{Reply}
-use Rattle.register.proofs.Raising.{elsewhere}
-use Rattle.register.proofs.Granting.{Granting, granting-of, unit-stays, aquifer-stays}
-use Rattle.register.proofs.Posting.{posted-view}
+use Rattle.effect.proofs.Raising.{elsewhere}
+use Rattle.refusal.proofs.Granting.{Granting, granting-of, unit-stays, aquifer-stays}
+use Rattle.effect.proofs.Posting.{posted-view}
 use Rattle.register.proofs.Replies.{grantable-of, reply-unsound, reply-early, reply-dry, reply-given}
 
 -- A unit from which the title takes nothing adds no less to the river.

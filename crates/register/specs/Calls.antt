@@ -5,7 +5,7 @@ use Rattle.model.specs.declared.Call.the-variants.{Grant, Cancel}
 use Rattle.model.specs.declared.Balance.{Balance}
 use Rattle.model.specs.View.{View}
 use Rattle.model.specs.Answers.{Refusal}
-use Rattle.register.specs.Grant.{grantRefusal}
+use Rattle.refusal.specs.Grant.{grantRefusal}
 use Rattle.register.specs.Reply.{grantReply}
 use Rattle.register.specs.Cancel.{cancelRefusal, cancelReply}
 use Rattle.register.specs.declared.Reply.{Reply}

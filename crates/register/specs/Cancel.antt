@@ -1,130 +1,23 @@
 -- Cancelling a title, over a view of the entries (document 01, "Titles" and the refusals of CA). Assumes nothing.
-use Prim.Native.Nat.{ℕ, pred, _-_, _≤_, _<_}
-use mathlib.Core.Bool.{Bool, false, cond, not, _&&_}
-use mathlib.Core.List.{List}
-use lib.Dec.{eqb}
-use lib.ListN.{getD, set}
-use Rattle.model.specs.declared.Unit.{Unit}
-use Rattle.model.specs.declared.Aquifer.{Aquifer}
-use Rattle.model.specs.declared.Title.{Title}
-use Rattle.model.specs.declared.Title.the-variants.{UnitWithdrawal, AquiferWithdrawal, UnitTransfer, AquiferTransfer}
+use Prim.Native.Nat.{ℕ, pred, _-_}
+use mathlib.Core.Bool.{Bool, not, _&&_}
 use Rattle.model.specs.declared.Balance.{Balance}
-use Rattle.model.specs.Fresh.{emptyUnit, emptyAquifer}
 use Rattle.model.specs.View.{View, viewOf}
 use Rattle.model.specs.Answers.{Refusal, none, refuse}
-use Rattle.titles.specs.Adds.{adds, returned}
-use Rattle.titles.specs.declared.Slot.the-variants.{Extraction, Exports, Imports, Returns, WellExtraction}
 use Rattle.basin.specs.Sound.{exists, flowing}
-use Rattle.register.specs.Effect.{unwithdrawn, unexported, unimported, unpumped}
+use Rattle.effect.specs.Cancelled.{cancelled, withoutTitle}
 use Rattle.register.specs.Reply.{afterTest, replied}
 use Rattle.register.specs.declared.Reply.{Reply}
 
--- A unit's entries, and an aquifer's, with a title taken back: each lowered by exactly what the title added to it.
-abbrev pub loweredUnit : Title → ℕ → Unit → Unit
-loweredUnit t k u =
-    record {
-      downstream = u .downstream;
-      extraction = u .extraction - adds t Extraction k;
-      exports = u .exports - adds t Exports k;
-      imports = u .imports - adds t Imports k;
-      returns = u .returns - adds t Returns k;
-      evaporation = u .evaporation;
-      storage = u .storage;
-      commitment = u .commitment;
-      runoff = u .runoff;
-    }
-
-abbrev pub loweredAquifer : Title → ℕ → Aquifer → Aquifer
-loweredAquifer t k a =
-    record {
-      storage = a .storage;
-      natural = a .natural;
-      pumped = a .pumped;
-      committed = a .committed;
-      extraction = a .extraction - adds t WellExtraction k;
-    }
-
--- The title under a number, and whether the number is in force.
-abbrev pub titleOf : View → ℕ → Title
-titleOf v n = v .place (pred n) .title
-
+-- A number is in force: it was given, and its place is in force.
 abbrev pub inForce : View → ℕ → Bool
 inForce v n = exists (v .given) n && v .place (pred n) .«in_force»
-
--- The view with the title under a number out of force: every entry lowered by what the title added, and its place kept.
-abbrev pub cancelled : View → ℕ → View
-cancelled v n =
-    record {
-      units = v .units;
-      unit = λ k. loweredUnit (titleOf v n) k (v .unit k);
-      aquifers = v .aquifers;
-      aquifer = λ k. loweredAquifer (titleOf v n) k (v .aquifer k);
-      given = v .given;
-      place = λ k. cond (eqb k (pred n)) (record { title = titleOf v n; «in_force» = false }) (v .place k);
-    }
 
 -- CA: 19 number not in force; 20 some flow would be negative without the title.
 abbrev pub cancelRefusal : View → ℕ → Refusal
 cancelRefusal v n = refuse 19 (not (inForce v n)) (refuse 20 (not (flowing (cancelled v n))) none)
 
--- The array of units, or of aquifers, changed at one number.
-abbrev pub changeUnit : ℕ → (Unit → Unit) → List Unit → List Unit
-changeUnit u f us = set us (pred u) (f (getD us (pred u) emptyUnit))
-
-abbrev pub changeWell : ℕ → (Aquifer → Aquifer) → List Aquifer → List Aquifer
-changeWell a f ws = set ws (pred a) (f (getD ws (pred a) emptyAquifer))
-
--- The units and the aquifers with what a title added taken back.
-abbrev pub loweredUnits : Title → List Unit → List Unit
-loweredUnits (UnitWithdrawal u r x) us = changeUnit u (λ w. unwithdrawn w x (returned r x)) us
-loweredUnits (AquiferWithdrawal a x) us = us
-loweredUnits (UnitTransfer g r x) us = changeUnit r (λ w. unimported w x) (changeUnit g (λ w. unexported w x) us)
-loweredUnits (AquiferTransfer a u x) us = changeUnit u (λ w. unimported w x) us
-
-abbrev pub loweredWells : Title → List Aquifer → List Aquifer
-loweredWells (UnitWithdrawal u r x) ws = ws
-loweredWells (AquiferWithdrawal a x) ws = changeWell a (λ w. unpumped w x) ws
-loweredWells (UnitTransfer g r x) ws = ws
-loweredWells (AquiferTransfer a u x) ws = changeWell a (λ w. unpumped w x) ws
-
--- The balance with what a title added taken back.
-abbrev pub lowered : Balance → Title → Balance
-lowered b t =
-    record {
-      units = loweredUnits t (b .units);
-      «unit_count» = b .«unit_count»;
-      aquifers = loweredWells t (b .aquifers);
-      «aquifer_count» = b .«aquifer_count»;
-      titles = b .titles;
-      given = b .given;
-    }
-
--- The balance with the title under a number out of force; its place keeps the title. Everything else stays as it was.
-abbrev pub withoutTitle : Balance → ℕ → Balance
-withoutTitle b n =
-    record {
-      units = loweredUnits (titleOf (viewOf b) n) (b .units);
-      «unit_count» = b .«unit_count»;
-      aquifers = loweredWells (titleOf (viewOf b) n) (b .aquifers);
-      «aquifer_count» = b .«aquifer_count»;
-      titles = set (b .titles) (pred n) (record { title = titleOf (viewOf b) n; «in_force» = false });
-      given = b .given;
-    }
-
 -- CA: the reply to a cancellation; accepted, it carries the cancelled number.
 abbrev pub cancelReply : Balance → ℕ → Reply
 cancelReply b n = replied (afterTest b (cancelRefusal (viewOf b) n)) b (withoutTitle b n) n
 
--- What a title added can be taken back: what it names is there, and the entries hold what it added.
-abbrev pub Held : View → Title → Type 0
-Held v (UnitWithdrawal u r x) = (0 < u) × (u ≤ v .units) × (x ≤ v .unit (pred u) .extraction) × (returned r x ≤ v .unit (pred u) .returns)
-Held v (AquiferWithdrawal a x) = (0 < a) × (a ≤ v .aquifers) × (x ≤ v .aquifer (pred a) .extraction)
-Held v (UnitTransfer g r x) =
-    (0 < g) × (g ≤ v .units) × (0 < r) × (r ≤ v .units) × (x ≤ v .unit (pred g) .exports) × (x ≤ v .unit (pred r) .imports)
-Held v (AquiferTransfer a u x) =
-    (0 < a) × (a ≤ v .aquifers) × (0 < u) × (u ≤ v .units) × (x ≤ v .aquifer (pred a) .extraction) × (x ≤ v .unit (pred u) .imports)
-
-pub record Takable (b : Balance) (t : Title) : Type 0 where
-  pub units : b .«unit_count» ≤ 64
-  pub aquifers : b .«aquifer_count» ≤ 32
-  pub held : Held (viewOf b) t

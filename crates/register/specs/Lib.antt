@@ -1,7 +1,4 @@
--- The register: what a call refuses, and what a title does.
-pub mod Grant
+-- The register: what a call refuses, and what it hands back.
 pub mod Reply
-pub mod Steps
-pub mod Effect
 pub mod Cancel
 pub mod Calls

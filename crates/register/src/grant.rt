@@ -5,13 +5,10 @@ ghost use Rattle.model.specs.View.{viewOf};
 ghost use Rattle.model.specs.declared.Title.the-variants.{UnitWithdrawal, AquiferWithdrawal, UnitTransfer, AquiferTransfer};
 ghost use Rattle.basin.specs.Sound as sounds;
 ghost use Rattle.register.specs.Reply as replies;
-ghost use Rattle.register.specs.Steps as steps;
+ghost use Rattle.refusal.specs.Steps.{earlyNumber};
 use crate::Reply;
-use crate::effect::post;
 use crate::outcome::refused;
 use crate::outcome::sized;
-use crate::refusal::early;
-use crate::water::no_water;
 use model::Answer;
 use model::Aquifer;
 use model::Balance;
@@ -21,13 +18,13 @@ use model::Unit;
 
 // The reply to a grant that no early refusal meets: 17, or the balance with the title in.
 fn settle(b: Balance, t: Title) -> Reply
-    requires { ⌜ (sounds.sound (viewOf b) ≡ true) × (steps.earlyNumber (viewOf b) t ≡ 0) ⌝ }
+    requires { ⌜ (sounds.sound (viewOf b) ≡ true) × (earlyNumber (viewOf b) t ≡ 0) ⌝ }
     ensures { λ r. ⌜ r ≡ replies.grantReply b t ⌝ }
 {
     let n = b.given;
     let _ = sized(b);
-    let new = post(b, t);
-    if no_water(new, t) {
+    let new = effect::post(b, t);
+    if refusal::no_water(new, t) {
         return refused(b, 17);
     }
     Reply {
@@ -37,18 +34,26 @@ fn settle(b: Balance, t: Title) -> Reply
     }
 }
 
+// The reply to a grant on a sound balance.
+pub fn grant_sound(b: Balance, t: Title) -> Reply
+    requires { ⌜ sounds.sound (viewOf b) ≡ true ⌝ }
+    ensures { λ r. ⌜ r ≡ replies.grantReply b t ⌝ }
+{
+    let number = refusal::early(b, t);
+    if 0 < number {
+        return refused(b, number);
+    }
+    settle(b, t)
+}
+
 // The reply to a grant, on every balance.
-pub fn grant(b: Balance, t: Title) -> Reply
+fn grant(b: Balance, t: Title) -> Reply
     ensures { λ r. ⌜ r ≡ replies.grantReply b t ⌝ }
 {
     if !basin::sound(b) {
         return refused(b, 0);
     }
-    let number = early(b, t);
-    if 0 < number {
-        return refused(b, number);
-    }
-    settle(b, t)
+    grant_sound(b, t)
 }
 
 // GU: a withdrawal from a unit.

@@ -1,13 +1,11 @@
 // The register: titles granted, transferred and cancelled, each call from a balance to a reply.
 mod asked;
-mod effect;
 mod grant;
 mod outcome;
-mod refusal;
 mod taking_back;
-mod water;
 
 pub use asked::ask;
+pub use asked::ask_tested;
 pub use grant::bring;
 pub use grant::pump;
 pub use grant::transfer;

@@ -2,8 +2,8 @@
 ghost use mathlib.Core.Path.{_≡_};
 ghost use lib.ListN.{length};
 ghost use Rattle.model.specs.Answers.{number};
+ghost use Rattle.effect.specs.Granted.{Sized};
 ghost use Rattle.register.specs.Reply as replies;
-ghost use Rattle.register.specs.Steps as steps;
 use crate::Reply;
 use model::Answer;
 use model::Aquifer;
@@ -20,7 +20,7 @@ fn lengths(units: [Unit; 64], aquifers: [Aquifer; 32], titles: [Place; 256]) -> 
 
 // The arrays of a balance have their full length.
 pub fn sized(b: Balance) -> bool
-    ensures { λ r. ⌜ steps.Sized b ⌝ }
+    ensures { λ r. ⌜ Sized b ⌝ }
 {
     let units = b.units;
     let aquifers = b.aquifers;

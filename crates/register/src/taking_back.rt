@@ -1,9 +1,8 @@
 // Cancelling a title: what it added is taken back, and its place stays out of force.
 ghost use mathlib.Core.Path.{_≡_};
-ghost use Prim.Native.Nat.{_≤_, _<_};
+ghost use Prim.Native.Nat.{_≤_};
 ghost use Rattle.model.specs.View.{viewOf};
-ghost use Rattle.model.specs.declared.Title.the-variants.{UnitWithdrawal, AquiferWithdrawal, UnitTransfer, AquiferTransfer};
-ghost use Rattle.register.specs.Effect as effects;
+ghost use Rattle.effect.specs.Cancelled.{withoutTitle};
 ghost use Rattle.register.specs.Cancel as cancels;
 ghost use mathlib.Core.Bool.{true};
 ghost use Rattle.basin.specs.Sound as sounds;
@@ -17,133 +16,6 @@ use model::Found;
 use model::Place;
 use model::Title;
 use model::Unit;
-
-// A unit without a withdrawal and its return.
-fn unwithdrawn(mut u: Unit, volume: u32, back: u32) -> Unit
-    requires { ⌜ (volume ≤ u .extraction) × (back ≤ u .returns) ⌝ }
-    ensures { λ r. ⌜ r ≡ effects.unwithdrawn u volume back ⌝ }
-{
-    u.extraction = u.extraction - volume;
-    u.returns = u.returns - back;
-    u
-}
-
-// A unit without an export.
-fn unexported(mut u: Unit, volume: u32) -> Unit
-    requires { ⌜ volume ≤ u .exports ⌝ }
-    ensures { λ r. ⌜ r ≡ effects.unexported u volume ⌝ }
-{
-    u.exports = u.exports - volume;
-    u
-}
-
-// A unit without an import.
-fn unimported(mut u: Unit, volume: u32) -> Unit
-    requires { ⌜ volume ≤ u .imports ⌝ }
-    ensures { λ r. ⌜ r ≡ effects.unimported u volume ⌝ }
-{
-    u.imports = u.imports - volume;
-    u
-}
-
-// An aquifer without an extraction.
-fn unpumped(mut a: Aquifer, volume: u32) -> Aquifer
-    requires { ⌜ volume ≤ a .extraction ⌝ }
-    ensures { λ r. ⌜ r ≡ effects.unpumped a volume ⌝ }
-{
-    a.extraction = a.extraction - volume;
-    a
-}
-
-// The balance without what a withdrawal from a unit added.
-fn lower_withdrawal(mut b: Balance, unit: u8, usage: u8, volume: u32) -> Balance
-    requires { ⌜ cancels.Takable b (UnitWithdrawal unit usage volume) ⌝ }
-    ensures { λ r. ⌜ r ≡ cancels.lowered b (UnitWithdrawal unit usage volume) ⌝ }
-{
-    let k = (unit as usize) - 1;
-    let u = b.units[k];
-    let less = unwithdrawn(u, volume, titles::returned(usage, volume));
-    b.units[k] = less;
-    b
-}
-
-// The balance without what a withdrawal from an aquifer added.
-fn lower_pumping(mut b: Balance, aquifer: u8, volume: u32) -> Balance
-    requires { ⌜ cancels.Takable b (AquiferWithdrawal aquifer volume) ⌝ }
-    ensures { λ r. ⌜ r ≡ cancels.lowered b (AquiferWithdrawal aquifer volume) ⌝ }
-{
-    let k = (aquifer as usize) - 1;
-    let a = b.aquifers[k];
-    let less = unpumped(a, volume);
-    b.aquifers[k] = less;
-    b
-}
-
-// The balance without what a transfer from a unit added to the giver's exports and the receiver's imports.
-fn lower_transfer(mut b: Balance, from: u8, to: u8, volume: u32) -> Balance
-    requires { ⌜ cancels.Takable b (UnitTransfer from to volume) ⌝ }
-    ensures { λ r. ⌜ r ≡ cancels.lowered b (UnitTransfer from to volume) ⌝ }
-{
-    let g = (from as usize) - 1;
-    let giver = b.units[g];
-    let fewer = unexported(giver, volume);
-    b.units[g] = fewer;
-    let k = (to as usize) - 1;
-    let receiver = b.units[k];
-    let less = unimported(receiver, volume);
-    b.units[k] = less;
-    b
-}
-
-// The balance without what a transfer from an aquifer added.
-fn lower_bringing(mut b: Balance, aquifer: u8, unit: u8, volume: u32) -> Balance
-    requires { ⌜ cancels.Takable b (AquiferTransfer aquifer unit volume) ⌝ }
-    ensures { λ r. ⌜ r ≡ cancels.lowered b (AquiferTransfer aquifer unit volume) ⌝ }
-{
-    let w = (aquifer as usize) - 1;
-    let a = b.aquifers[w];
-    let fewer = unpumped(a, volume);
-    b.aquifers[w] = fewer;
-    let k = (unit as usize) - 1;
-    let u = b.units[k];
-    let less = unimported(u, volume);
-    b.units[k] = less;
-    b
-}
-
-// The balance without what a title added.
-pub fn lower(b: Balance, t: Title) -> Balance
-    requires { ⌜ cancels.Takable b t ⌝ }
-    ensures { λ r. ⌜ r ≡ cancels.lowered b t ⌝ }
-{
-    match t {
-        Title::UnitWithdrawal {
-            unit,
-            usage,
-            volume,
-        } => lower_withdrawal(b, unit, usage, volume),
-        Title::AquiferWithdrawal { aquifer, volume } => lower_pumping(b, aquifer, volume),
-        Title::UnitTransfer { from, to, volume } => lower_transfer(b, from, to, volume),
-        Title::AquiferTransfer {
-            aquifer,
-            unit,
-            volume,
-        } => lower_bringing(b, aquifer, unit, volume),
-    }
-}
-
-// The title at an index of the register goes out of force; its place keeps it.
-fn leave(mut b: Balance, k: usize, t: Title) -> Balance
-    requires { ⌜ k < 256 ⌝ }
-    ensures { λ r. ⌜ r ≡ effects.left b k t ⌝ }
-{
-    let place = Place {
-        title: t,
-        in_force: false,
-    };
-    b.titles[k] = place;
-    b
-}
 
 // A number is in force: it was given, and its place is in force.
 fn in_force(b: Balance, number: u16) -> bool
@@ -164,13 +36,13 @@ fn in_force(b: Balance, number: u16) -> bool
 // The balance with the title under a number out of force.
 fn without(b: Balance, number: u16) -> Balance
     requires { ⌜ (sounds.sound (viewOf b) ≡ true) × (cancels.inForce (viewOf b) number ≡ true) ⌝ }
-    ensures { λ r. ⌜ r ≡ cancels.withoutTitle b number ⌝ }
+    ensures { λ r. ⌜ r ≡ withoutTitle b number ⌝ }
 {
     let k = (number as usize) - 1;
     let place = b.titles[k];
     let t = place.title;
-    let less = lower(b, t);
-    leave(less, k, t)
+    let less = effect::lower(b, t);
+    effect::leave(less, k, t)
 }
 
 // The reply to the cancellation of a number in force: 20, or the balance without the title.
@@ -190,15 +62,23 @@ fn release(b: Balance, number: u16) -> Reply
     }
 }
 
-// CA: a cancellation.
+// The reply to a cancellation on a sound balance.
+pub fn cancel_sound(b: Balance, number: u16) -> Reply
+    requires { ⌜ sounds.sound (viewOf b) ≡ true ⌝ }
+    ensures { λ r. ⌜ r ≡ cancels.cancelReply b number ⌝ }
+{
+    if !in_force(b, number) {
+        return refused(b, 19);
+    }
+    release(b, number)
+}
+
+// CA: a cancellation, on every balance.
 pub fn cancel(b: Balance, number: u16) -> Reply
     ensures { λ r. ⌜ r ≡ cancels.cancelReply b number ⌝ }
 {
     if !basin::sound(b) {
         return refused(b, 0);
     }
-    if !in_force(b, number) {
-        return refused(b, 19);
-    }
-    release(b, number)
+    cancel_sound(b, number)
 }

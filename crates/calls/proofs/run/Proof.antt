@@ -3,25 +3,30 @@ use mathlib.Core.Path.{_≡_, refl, sym, _∙_}
 use native.Mathlib.Omega.{arith}
 use borrow.Author.Needs.{needs}
 use borrow.Author.Count.{falls-down}
+use Rattle.model.specs.View.{viewOf}
+use Rattle.basin.specs.Sound.{sound}
 use Rattle.calls.specs.Running.{ran}
 use Rattle.calls.proofs.Running.{rest, turn-ends, turn-fails, turn-asks, turn-none}
 use Rattle.calls.proofs.run.Statement.{statement}
 use Rattle.calls.proofs.run.Tie as tie
 
 abbrev Inv-loop : tie.InvT-loop
-Inv-loop s from b₀ at₀ left₀ b at left = rest left s at b ≡ ran s at₀ b₀
+Inv-loop s from sound₀ b₀ at₀ left₀ b at left = (rest left s at b ≡ ran s at₀ b₀) × (sound₀ ≡ sound (viewOf b))
 
 abbrev μ-loop : tie.MeasureT-loop
-μ-loop s from b₀ at₀ left₀ b at left = left
+μ-loop s from sound₀ b₀ at₀ left₀ b at left = left
 
 add-left : tie.Need-add-left Inv-loop μ-loop
 add-left c = search needs
 
 loop-holds : tie.Need-loop-holds Inv-loop μ-loop
-loop-holds c = refl
+loop-holds c = (refl, c .sound .ensures)
 
 sub-left : tie.Need-sub-left Inv-loop μ-loop
 sub-left c = c .loop-test .taken
+
+sound-requires : tie.Need-sound-requires Inv-loop μ-loop
+sound-requires c κs = search needs
 
 call-at-requires : tie.Need-call-at-requires Inv-loop μ-loop
 call-at-requires c κs = search needs
@@ -33,7 +38,7 @@ finished-requires : tie.Need-finished-requires Inv-loop μ-loop
 finished-requires c κs = search needs
 
 returns : tie.Need-returns Inv-loop μ-loop
-returns c = c .finished .ensures ∙ turn-ends _ _ _ _ _ (c .before .before .before .before .loop-test .taken) (c .before .before .before .before .before .loop .inv) (sym (c .before .before .before .call-at .ensures) ∙ c .before .enum-told .given .1)
+returns c = c .finished .ensures ∙ turn-ends _ _ _ _ _ (c .before .before .before .before .loop-test .taken) (c .before .before .before .before .before .loop .inv .0) (sym (c .before .before .before .call-at .ensures) ∙ c .before .enum-told .given .1)
 
 enum-known-number : tie.Need-enum-known-number Inv-loop μ-loop
 enum-known-number c = search needs
@@ -42,25 +47,29 @@ failed-requires : tie.Need-failed-requires Inv-loop μ-loop
 failed-requires c κs = search needs
 
 returns-2 : tie.Need-returns-2 Inv-loop μ-loop
-returns-2 c = c .failed .ensures ∙ turn-fails _ _ _ _ _ _ (c .before .before .before .before .before .loop-test .taken) (c .before .before .before .before .before .before .loop .inv) (sym (c .before .before .before .before .call-at .ensures) ∙ c .before .before .number .given .1)
+returns-2 c = c .failed .ensures ∙ turn-fails _ _ _ _ _ _ (c .before .before .before .before .before .loop-test .taken) (c .before .before .before .before .before .before .loop .inv .0) (sym (c .before .before .before .before .call-at .ensures) ∙ c .before .before .number .given .1)
 
 enum-known-call : tie.Need-enum-known-call Inv-loop μ-loop
 enum-known-call c = search needs
 
-ask-requires : tie.Need-ask-requires Inv-loop μ-loop
-ask-requires c κs = search needs
+ask-tested-requires : tie.Need-ask-tested-requires Inv-loop μ-loop
+ask-tested-requires c κs = c .before .before .before .before .before .loop .inv .1
 
 loop-less : tie.Need-loop-less Inv-loop μ-loop
 loop-less c = falls-down _ (c .before .before .before .before .before .before .loop-test .taken)
 
 loop-again : tie.Need-loop-again Inv-loop μ-loop
-loop-again c = rw (c .before .ask .ensures) (turn-asks _ _ _ _ _ _ _ (c .before .before .before .before .before .before .loop-test .taken) (c .before .before .before .before .before .before .before .loop .inv) (sym (c .before .before .before .before .before .call-at .ensures) ∙ c .before .before .before .call .given .1))
+loop-again c = (
+  rw (c .before .ask-tested .ensures .0)
+  (turn-asks _ _ _ _ _ _ _ (c .before .before .before .before .before .before .loop-test .taken) (c .before .before .before .before .before .before .before .loop .inv .0) (sym (c .before .before .before .before .before .call-at .ensures) ∙ c .before .before .before .call .given .1)),
+  c .before .ask-tested .ensures .1,
+)
 
 failed-requires-2 : tie.Need-failed-requires-2 Inv-loop μ-loop
 failed-requires-2 c κs = search needs
 
 returns-3 : tie.Need-returns-3 Inv-loop μ-loop
-returns-3 c = c .failed2 .ensures ∙ turn-none _ _ _ _ _ (omega arith) (c .before .before .loop .inv)
+returns-3 c = c .failed2 .ensures ∙ turn-none _ _ _ _ _ (omega arith) (c .before .before .loop .inv .0)
 
 pub run-spec : {M : Type 1} → statement M
 run-spec =
@@ -68,6 +77,7 @@ run-spec =
     (tie.spec
     Inv-loop
     μ-loop
+    sound-requires
     add-left
     loop-holds
     sub-left
@@ -79,7 +89,7 @@ run-spec =
     failed-requires
     returns-2
     enum-known-call
-    ask-requires
+    ask-tested-requires
     loop-less
     loop-again
     failed-requires-2

@@ -1,8 +1,10 @@
 -- `listing::call_lines` meets its contract. Assumes nothing.
-use mathlib.Core.Path.{sym, _∙_}
+use mathlib.Core.Path.{_≡_, sym, _∙_}
 use native.Mathlib.Omega.{arith}
 use borrow.Author.Needs.{needs}
 use borrow.Author.Count.{falls-down}
+use Rattle.model.specs.View.{viewOf}
+use Rattle.basin.specs.Sound.{sound}
 use Rattle.calls.proofs.Running.{turn-ends, turn-fails, turn-none}
 use Rattle.report.proofs.Writing.{then, widen}
 use Rattle.listing.proofs.Calling.{Printing, printing-start, lines-end, lines-fail, lines-none, printing-replies}
@@ -10,19 +12,22 @@ use Rattle.listing.proofs.call_lines.Statement.{statement}
 use Rattle.listing.proofs.call_lines.Tie as tie
 
 abbrev Inv-loop : tie.InvT-loop
-Inv-loop s from out₀ p₀ b₀ at₀ k₀ left₀ out p b at k left = Printing s from b₀ out₀ p₀ out p b at k left
+Inv-loop s from out₀ p₀ sound₀ b₀ at₀ k₀ left₀ out p b at k left = Printing s from b₀ out₀ p₀ out p b at k left × (sound₀ ≡ sound (viewOf b))
 
 abbrev μ-loop : tie.MeasureT-loop
-μ-loop s from out₀ p₀ b₀ at₀ k₀ left₀ out p b at k left = left
+μ-loop s from out₀ p₀ sound₀ b₀ at₀ k₀ left₀ out p b at k left = left
 
 no-line-requires : tie.Need-no-line-requires Inv-loop μ-loop
 no-line-requires c κs = search needs
+
+sound-requires : tie.Need-sound-requires Inv-loop μ-loop
+sound-requires c κs = search needs
 
 add-left : tie.Need-add-left Inv-loop μ-loop
 add-left c = search needs
 
 loop-holds : tie.Need-loop-holds Inv-loop μ-loop
-loop-holds c = printing-start _ _ _ _ _ _ _ (c .no-line .ensures)
+loop-holds c = (printing-start _ _ _ _ _ _ _ (c .before .no-line .ensures), c .sound .ensures)
 
 sub-left : tie.Need-sub-left Inv-loop μ-loop
 sub-left c = c .loop-test .taken
@@ -38,14 +43,14 @@ finished-requires c κs = search needs
 
 returns : tie.Need-returns Inv-loop μ-loop
 returns c =
-    let start = c .before .before .before .before .before .before .before .before .before in
+    let start = c .before .before .before .before .before .before .before .before .before .before in
     let turn = c .before .before .before .before .before .loop in
-    let none = c .before .before .before .before .before .before .no-line .ensures in
+    let none = c .before .before .before .before .before .before .before .no-line .ensures in
     record {
       lines =
-          widen (then none (lines-end (start .args .s .now) (start .args .from) (start .args .balance) _ _ _ _ _ _ _ _ (c .before .before .before .before .loop-test .taken) (turn .inv) (sym (c .before .before .before .call-at .ensures) ∙ c .before .enum-told .given .1)))
-          (omega (arith, turn .inv .few, start .pre));
-      result = c .finished .ensures ∙ turn-ends (start .args .s .now) _ _ _ _ (c .before .before .before .before .loop-test .taken) (turn .inv .same) (sym (c .before .before .before .call-at .ensures) ∙ c .before .enum-told .given .1);
+          widen (then none (lines-end (start .args .s .now) (start .args .from) (start .args .balance) _ _ _ _ _ _ _ _ (c .before .before .before .before .loop-test .taken) (turn .inv .0) (sym (c .before .before .before .call-at .ensures) ∙ c .before .enum-told .given .1)))
+          (omega (arith, turn .inv .0 .few, start .pre));
+      result = c .finished .ensures ∙ turn-ends (start .args .s .now) _ _ _ _ (c .before .before .before .before .loop-test .taken) (turn .inv .0 .same) (sym (c .before .before .before .call-at .ensures) ∙ c .before .enum-told .given .1);
     }
 
 enum-known-number : tie.Need-enum-known-number Inv-loop μ-loop
@@ -56,52 +61,53 @@ failed-requires c κs = search needs
 
 returns-2 : tie.Need-returns-2 Inv-loop μ-loop
 returns-2 c =
-    let start = c .before .before .before .before .before .before .before .before .before .before in
+    let start = c .before .before .before .before .before .before .before .before .before .before .before in
     let turn = c .before .before .before .before .before .before .loop in
-    let none = c .before .before .before .before .before .before .before .no-line .ensures in
+    let none = c .before .before .before .before .before .before .before .before .no-line .ensures in
     record {
       lines =
-          widen (then none (lines-fail (start .args .s .now) (start .args .from) (start .args .balance) _ _ _ _ _ _ _ _ _ (c .before .before .before .before .before .loop-test .taken) (turn .inv) (sym (c .before .before .before .before .call-at .ensures) ∙ c .before .before .number .given .1)))
-          (omega (arith, turn .inv .few, start .pre));
-      result = c .failed .ensures ∙ turn-fails (start .args .s .now) _ _ _ _ _ (c .before .before .before .before .before .loop-test .taken) (turn .inv .same) (sym (c .before .before .before .before .call-at .ensures) ∙ c .before .before .number .given .1);
+          widen (then none (lines-fail (start .args .s .now) (start .args .from) (start .args .balance) _ _ _ _ _ _ _ _ _ (c .before .before .before .before .before .loop-test .taken) (turn .inv .0) (sym (c .before .before .before .before .call-at .ensures) ∙ c .before .before .number .given .1)))
+          (omega (arith, turn .inv .0 .few, start .pre));
+      result = c .failed .ensures ∙ turn-fails (start .args .s .now) _ _ _ _ _ (c .before .before .before .before .before .loop-test .taken) (turn .inv .0 .same) (sym (c .before .before .before .before .call-at .ensures) ∙ c .before .before .number .given .1);
     }
 
 enum-known-call : tie.Need-enum-known-call Inv-loop μ-loop
 enum-known-call c = search needs
 
-ask-requires : tie.Need-ask-requires Inv-loop μ-loop
-ask-requires c κs = search needs
+ask-tested-requires : tie.Need-ask-tested-requires Inv-loop μ-loop
+ask-tested-requires c κs = c .before .before .before .before .before .loop .inv .1
 
 add-k : tie.Need-add-k Inv-loop μ-loop
-add-k c = omega (arith, c .before .before .before .before .before .before .loop .inv .few, c .before .before .before .before .before .before .before .before .before .before .pre)
+add-k c = omega (arith, c .before .before .before .before .before .before .loop .inv .0 .few, c .before .before .before .before .before .before .before .before .before .before .before .pre)
 
 call-line-requires : tie.Need-call-line-requires Inv-loop μ-loop
 call-line-requires c κs =
-    let i = c .before .before .before .before .before .before .before .loop .inv in
-    omega (arith, i .written .short, i .written .place, c .before .before .before .before .before .before .before .before .no-line .ensures .place, i .few, c .before .before .before .before .before .before .before .before .before .before .before .pre)
+    let i = c .before .before .before .before .before .before .before .loop .inv .0 in
+    omega (arith, i .written .short, i .written .place, c .before .before .before .before .before .before .before .before .before .no-line .ensures .place, i .few, c .before .before .before .before .before .before .before .before .before .before .before .before .pre)
 
 loop-less : tie.Need-loop-less Inv-loop μ-loop
 loop-less c = falls-down _ (c .before .before .before .before .before .before .before .before .loop-test .taken)
 
 loop-again : tie.Need-loop-again Inv-loop μ-loop
 loop-again c =
-    let start = c .before .before .before .before .before .before .before .before .before .before .before .before .before in
-    printing-replies (start .args .s .now) (start .args .from) (start .args .balance) _ _ _ _ _ _ _ _ _ _ _ _ _ (c .before .before .before .ask .ensures)
-    (c .before .before .before .before .before .before .before .before .loop-test .taken) (c .before .before .before .before .before .before .before .before .before .loop .inv) (sym (c .before .before .before .before .before .before .before .call-at .ensures) ∙ c .before .before .before .before .before .call .given .1) (c .before .call-line .ensures)
+    let start = c .before .before .before .before .before .before .before .before .before .before .before .before .before .before in
+    (printing-replies (start .args .s .now) (start .args .from) (start .args .balance) _ _ _ _ _ _ _ _ _ _ _ _ _ (c .before .before .before .ask-tested .ensures .0)
+    (c .before .before .before .before .before .before .before .before .loop-test .taken) (c .before .before .before .before .before .before .before .before .before .loop .inv .0) (sym (c .before .before .before .before .before .before .before .call-at .ensures) ∙ c .before .before .before .before .before .call .given .1) (c .before .call-line .ensures),
+    c .before .before .before .ask-tested .ensures .1)
 
 failed-requires-2 : tie.Need-failed-requires-2 Inv-loop μ-loop
 failed-requires-2 c κs = search needs
 
 returns-3 : tie.Need-returns-3 Inv-loop μ-loop
 returns-3 c =
-    let start = c .before .before .before .before .before .before in
+    let start = c .before .before .before .before .before .before .before in
     let turn = c .before .before .loop in
-    let none = c .before .before .before .no-line .ensures in
+    let none = c .before .before .before .before .no-line .ensures in
     record {
       lines =
-          widen (then none (lines-none (start .args .s .now) (start .args .from) (start .args .balance) _ _ _ _ _ _ _ _ (omega arith) (turn .inv)))
-          (omega (arith, turn .inv .few, start .pre));
-      result = c .failed2 .ensures ∙ turn-none (start .args .s .now) _ _ _ _ (omega arith) (turn .inv .same);
+          widen (then none (lines-none (start .args .s .now) (start .args .from) (start .args .balance) _ _ _ _ _ _ _ _ (omega arith) (turn .inv .0)))
+          (omega (arith, turn .inv .0 .few, start .pre));
+      result = c .failed2 .ensures ∙ turn-none (start .args .s .now) _ _ _ _ (omega arith) (turn .inv .0 .same);
     }
 
 pub call-lines-spec : {M : Type 1} → statement M
@@ -111,6 +117,7 @@ call-lines-spec =
     Inv-loop
     μ-loop
     no-line-requires
+    sound-requires
     add-left
     loop-holds
     sub-left
@@ -122,7 +129,7 @@ call-lines-spec =
     failed-requires
     returns-2
     enum-known-call
-    ask-requires
+    ask-tested-requires
     add-k
     call-line-requires
     loop-less

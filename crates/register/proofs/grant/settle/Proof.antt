@@ -9,11 +9,11 @@ use Rattle.model.specs.View.{View, viewOf}
 use Rattle.basin.proofs.Soundness.{soundness, sound-ready, sound-wells-ready}
 use Rattle.river.specs.Flow.{Ready}
 use Rattle.river.specs.Figures.{WellsReady}
-use Rattle.register.specs.Grant.{granted, noWater}
-use Rattle.register.specs.Steps.{Named}
+use Rattle.effect.specs.Granted.{granted, Named}
+use Rattle.refusal.specs.Grant.{noWater}
 use Rattle.register.specs.declared.Reply.{Reply}
-use Rattle.register.proofs.Granting.{granting-of, granted-ready, granted-wells-ready, granted-named}
-use Rattle.register.proofs.Posting.{posted-view}
+use Rattle.refusal.proofs.Granting.{granting-of, granted-ready, granted-wells-ready, granted-named}
+use Rattle.effect.proofs.Posting.{posted-view}
 use Rattle.register.proofs.Replies.{grantable-of, reply-dry, reply-given}
 use Rattle.register.proofs.grant.settle.Statement.{statement}
 use Rattle.register.proofs.grant.settle.Tie as tie

@@ -10,7 +10,7 @@ use Rattle.river.specs.Flow.{Ready, flow}
 use Rattle.river.proofs.Firsts.{nothing-every, at-fails}
 use Rattle.basin.specs.Sound.{flowing}
 use Rattle.basin.proofs.Soundness.{soundness}
-use Rattle.register.specs.Cancel.{cancelled}
+use Rattle.effect.specs.Cancelled.{cancelled}
 use Rattle.register.specs.declared.Reply.{Reply}
 use Rattle.register.proofs.Cancelling.{in-force-of, without-view}
 use Rattle.register.proofs.Leaving.{cancelled-ready, reply-needed, reply-cancelled}

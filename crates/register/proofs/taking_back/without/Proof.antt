@@ -8,8 +8,8 @@ use borrow.Author.Needs.{needs}
 use Rattle.model.specs.Fresh.{emptyPlace}
 use Rattle.model.specs.View.{viewOf}
 use Rattle.basin.proofs.Soundness.{Soundness, soundness}
-use Rattle.register.specs.Effect.{left}
-use Rattle.register.specs.Cancel.{Takable, lowered}
+use Rattle.effect.specs.Effect.{left}
+use Rattle.effect.specs.Cancelled.{Takable, lowered}
 use Rattle.register.proofs.Cancelling.{InForce, in-force-of, held-in-force}
 use Rattle.register.proofs.taking_back.without.Statement.{statement}
 use Rattle.register.proofs.taking_back.without.Tie as tie

@@ -1,0 +1,7 @@
+// What a title does to a balance: put in, it raises entries and stands in the next place; taken back, it lowers them by the same.
+mod entering;
+mod leaving;
+
+pub use entering::post;
+pub use leaving::leave;
+pub use leaving::lower;

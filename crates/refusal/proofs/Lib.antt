@@ -1,0 +1,2 @@
+pub mod Negative
+pub mod Granting

@@ -1,0 +1,60 @@
+-- `register::early` meets its contract. Assumes nothing.
+use mathlib.Core.Path.{sym, ap, _∙_}
+use borrow.Author.Needs.{needs}
+use Rattle.model.specs.View.{viewOf}
+use Rattle.refusal.specs.Steps.{earlyNumber}
+use Rattle.refusal.proofs.grounds.early.Statement.{statement}
+use Rattle.refusal.proofs.grounds.early.Tie as tie
+
+enum-known-t : tie.Need-enum-known-t
+enum-known-t c = search needs
+
+withdrawal-number-requires : tie.Need-withdrawal-number-requires
+withdrawal-number-requires c κs = search needs
+
+enum-known-t-2 : tie.Need-enum-known-t-2
+enum-known-t-2 c = search needs
+
+pumping-number-requires : tie.Need-pumping-number-requires
+pumping-number-requires c κs = search needs
+
+enum-known-t-3 : tie.Need-enum-known-t-3
+enum-known-t-3 c = search needs
+
+transfer-number-requires : tie.Need-transfer-number-requires
+transfer-number-requires c κs = search needs
+
+enum-known-t-4 : tie.Need-enum-known-t-4
+enum-known-t-4 c = search needs
+
+bringing-number-requires : tie.Need-bringing-number-requires
+bringing-number-requires c κs = search needs
+
+returns : tie.Need-returns
+returns c = c .withdrawal-number .ensures ∙ ap (earlyNumber (viewOf (c .before .before .before .before .args .b))) (sym (c .before .before .t .given .1))
+
+returns-2 : tie.Need-returns-2
+returns-2 c = c .pumping-number .ensures ∙ ap (earlyNumber (viewOf (c .before .before .before .before .args .b))) (sym (c .before .before .t2 .given .1))
+
+returns-3 : tie.Need-returns-3
+returns-3 c = c .transfer-number .ensures ∙ ap (earlyNumber (viewOf (c .before .before .before .before .args .b))) (sym (c .before .before .t3 .given .1))
+
+returns-4 : tie.Need-returns-4
+returns-4 c = c .bringing-number .ensures ∙ ap (earlyNumber (viewOf (c .before .before .before .before .args .b))) (sym (c .before .before .t4 .given .1))
+
+pub early-spec : {M : Type 1} → statement M
+early-spec =
+    tie.close
+    (tie.spec
+    enum-known-t
+    withdrawal-number-requires
+    enum-known-t-2
+    pumping-number-requires
+    enum-known-t-3
+    transfer-number-requires
+    enum-known-t-4
+    bringing-number-requires
+    returns
+    returns-2
+    returns-3
+    returns-4)

@@ -1,0 +1,3 @@
+-- The grounds on which a grant is refused.
+pub mod Grant
+pub mod Steps

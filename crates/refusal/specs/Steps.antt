@@ -1,0 +1,37 @@
+-- The steps of a grant, by the numbers of the refusals; 0 where none applies. Assumes nothing.
+use Prim.Native.Nat.{ℕ, _≤_}
+use mathlib.Core.Bool.{Bool, cond, not, _&&_, _||_}
+use lib.Dec.{eqb, leb}
+use lib.Signed.{nonNeg}
+use Rattle.model.specs.declared.Title.{Title}
+use Rattle.model.specs.declared.Title.the-variants.{UnitWithdrawal, AquiferWithdrawal, UnitTransfer, AquiferTransfer}
+use Rattle.model.specs.declared.Balance.{Balance}
+use Rattle.model.specs.View.{View}
+use Rattle.river.specs.declared.UnitFigures.{UnitFigures}
+use Rattle.basin.specs.Sound.{exists, isVolume}
+use Rattle.refusal.specs.Grant.{overfull, downstreamTransfer}
+
+-- 14, 15 or 16.
+abbrev pub volumeNumber : ℕ → ℕ → Bool → ℕ
+volumeNumber given volume over = cond (isVolume volume) (cond (leb 256 given) 15 (cond over 16 0)) 14
+
+-- 12 to 16 and 18, of each kind.
+abbrev pub earlyNumber : View → Title → ℕ
+earlyNumber v (UnitWithdrawal u r x) =
+    cond (exists (v .units) u) (cond (exists 7 r) (volumeNumber (v .given) x (overfull v (UnitWithdrawal u r x))) 13) 12
+earlyNumber v (AquiferWithdrawal a x) =
+    cond (exists (v .aquifers) a) (volumeNumber (v .given) x (overfull v (AquiferWithdrawal a x))) 12
+earlyNumber v (UnitTransfer g r x) =
+    cond (exists (v .units) g && exists (v .units) r)
+    (cond (downstreamTransfer v g r) 18 (volumeNumber (v .given) x (overfull v (UnitTransfer g r x)))) 12
+earlyNumber v (AquiferTransfer a u x) =
+    cond (exists (v .aquifers) a && exists (v .units) u) (volumeNumber (v .given) x (overfull v (AquiferTransfer a u x))) 12
+
+-- The counts of a balance are within their arrays.
+pub record Bounded (b : Balance) : Type 0 where
+  pub units : b .«unit_count» ≤ 64
+  pub aquifers : b .«aquifer_count» ≤ 32
+
+-- A unit of an outlet's basin with a negative flow or a negative availability, by its figures.
+abbrev pub wantingFigures : ℕ → ℕ → UnitFigures → Bool
+wantingFigures end outlet f = eqb end outlet && (not (nonNeg (f .flow)) || not (nonNeg (f .availability)))

@@ -1,0 +1,156 @@
+// What a grant refuses before its water is looked at: 12 to 16 and 18; 0 where none of them applies.
+ghost use mathlib.Core.Path.{_≡_};
+ghost use mathlib.Core.Bool.{_||_};
+ghost use Prim.Native.Nat.{_≤_, _<_, _+_};
+ghost use Rattle.model.specs.View.{viewOf};
+ghost use Rattle.model.specs.declared.Title.the-variants.{UnitWithdrawal, AquiferWithdrawal, UnitTransfer, AquiferTransfer};
+ghost use Rattle.river.specs.Flow.{Ready};
+ghost use Rattle.refusal.specs.Grant as grants;
+ghost use Rattle.refusal.specs.Steps as steps;
+ghost use Rattle.refusal.specs.Steps.{Bounded};
+use basin::exists;
+use basin::is_volume;
+use model::Balance;
+use model::Title;
+
+// An entry that would pass 10,000,000.
+fn past(entry: u32, more: u32) -> bool
+    ensures { λ r. ⌜ r ≡ grants.past (entry + more) ⌝ }
+{
+    (entry as u64) + (more as u64) > 10000000
+}
+
+// One of two entries would pass 10,000,000.
+fn either_past(entry: u32, more: u32, other: u32, too: u32) -> bool
+    ensures { λ r. ⌜ r ≡ (grants.past (entry + more) || grants.past (other + too)) ⌝ }
+{
+    if past(entry, more) {
+        return true;
+    }
+    past(other, too)
+}
+
+// 14, 15 or 16.
+fn volume_number(given: usize, volume: u32, over: bool) -> u8
+    ensures { λ r. ⌜ r ≡ steps.volumeNumber given volume over ⌝ }
+{
+    if is_volume(volume) {
+        if 256 <= given {
+            return 15;
+        }
+        if over {
+            return 16;
+        }
+        return 0;
+    }
+    14
+}
+
+// GU: 12 to 16.
+fn withdrawal_number(b: Balance, unit: u8, usage: u8, volume: u32) -> u8
+    requires { ⌜ Bounded b ⌝ }
+    ensures { λ r. ⌜ r ≡ steps.earlyNumber (viewOf b) (UnitWithdrawal unit usage volume) ⌝ }
+{
+    if exists(b.unit_count, unit) {
+        if exists(7, usage) {
+            let k = (unit as usize) - 1;
+            let u = b.units[k];
+            let over = either_past(
+                u.extraction,
+                volume,
+                u.returns,
+                titles::returned(usage, volume),
+            );
+            return volume_number(b.given, volume, over);
+        }
+        return 13;
+    }
+    12
+}
+
+// GA: 12, 14 to 16.
+fn pumping_number(b: Balance, aquifer: u8, volume: u32) -> u8
+    requires { ⌜ Bounded b ⌝ }
+    ensures { λ r. ⌜ r ≡ steps.earlyNumber (viewOf b) (AquiferWithdrawal aquifer volume) ⌝ }
+{
+    if exists(b.aquifer_count, aquifer) {
+        let k = (aquifer as usize) - 1;
+        let a = b.aquifers[k];
+        let over = past(a.extraction, volume);
+        return volume_number(b.given, volume, over);
+    }
+    12
+}
+
+// TA: 12, 14 to 16.
+fn bringing_number(b: Balance, aquifer: u8, unit: u8, volume: u32) -> u8
+    requires { ⌜ Bounded b ⌝ }
+    ensures { λ r. ⌜ r ≡ steps.earlyNumber (viewOf b) (AquiferTransfer aquifer unit volume) ⌝ }
+{
+    if exists(b.aquifer_count, aquifer) {
+        if exists(b.unit_count, unit) {
+            let w = (aquifer as usize) - 1;
+            let a = b.aquifers[w];
+            let k = (unit as usize) - 1;
+            let u = b.units[k];
+            let over = either_past(a.extraction, volume, u.imports, volume);
+            return volume_number(b.given, volume, over);
+        }
+    }
+    12
+}
+
+// 18 same unit, or the receiver lies below the giver.
+fn is_downstream(b: Balance, from: u8, to: u8) -> bool
+    requires { ⌜ Ready (viewOf b) × (0 < from) × (from ≤ viewOf b .units) × (0 < to) ⌝ }
+    ensures { λ r. ⌜ r ≡ grants.downstreamTransfer (viewOf b) from to ⌝ }
+{
+    if from == to {
+        return true;
+    }
+    let g = (from as usize) - 1;
+    let k = (to as usize) - 1;
+    reach::lies_below(b, g, k)
+}
+
+// TU: 12, 18, 14 to 16.
+fn transfer_number(b: Balance, from: u8, to: u8, volume: u32) -> u8
+    requires { ⌜ Ready (viewOf b) ⌝ }
+    ensures { λ r. ⌜ r ≡ steps.earlyNumber (viewOf b) (UnitTransfer from to volume) ⌝ }
+{
+    if exists(b.unit_count, from) {
+        if exists(b.unit_count, to) {
+            if is_downstream(b, from, to) {
+                return 18;
+            }
+            let g = (from as usize) - 1;
+            let giver = b.units[g];
+            let k = (to as usize) - 1;
+            let receiver = b.units[k];
+            let over = either_past(giver.exports, volume, receiver.imports, volume);
+            return volume_number(b.given, volume, over);
+        }
+    }
+    12
+}
+
+// The number under which a grant is refused before its water is looked at, of each kind of title.
+pub fn early(b: Balance, t: Title) -> u8
+    requires { ⌜ Ready (viewOf b) × Bounded b ⌝ }
+    ensures { λ r. ⌜ r ≡ steps.earlyNumber (viewOf b) t ⌝ }
+{
+    match t {
+        Title::UnitWithdrawal {
+            unit,
+            usage,
+            volume,
+        } => withdrawal_number(b, unit, usage, volume),
+        Title::AquiferWithdrawal { aquifer, volume } => pumping_number(b, aquifer, volume),
+        Title::UnitTransfer { from, to, volume } => transfer_number(b, from, to, volume),
+        Title::AquiferTransfer {
+            aquifer,
+            unit,
+            volume,
+        } => bringing_number(b, aquifer, unit, volume),
+    }
+}
