@@ -17,7 +17,7 @@ pub struct Totals {
 }
 
 // What a unit contributes to its downstream unit: its flow, or 0 where that is negative.
-fn contribution(gained: u64, lost: u64) -> u64
+pub fn contribution(gained: u64, lost: u64) -> u64
     ensures { λ r. ⌜ r ≡ gained - lost ⌝ }
 {
     if gained < lost {
