@@ -28,16 +28,6 @@ pub fn loss(u: Unit) -> u64
     (u.exports as u64) + (u.extraction as u64) + (u.evaporation as u64) + laws::above(storage)
 }
 
-fn part(lost: bool, u: Unit) -> u64
-    requires { ⌜ river.Small u ⌝ }
-    ensures { λ r. ⌜ r ≡ river.part lost u ⌝ }
-{
-    if lost {
-        return loss(u);
-    }
-    gain(u)
-}
-
 // Forward over the units: all that is gained and lost at each unit and above it goes on to its downstream unit, and its contribution is
 // added to what has arrived there.
 pub fn flow_amounts(b: Balance) -> Amounts
@@ -75,27 +65,4 @@ pub fn flow_amounts(b: Balance) -> Amounts
         before,
         arrived,
     }
-}
-
-// All that is lost, or gained, at each unit and above it: each unit's own part goes on to its downstream unit.
-pub fn gathered(b: Balance, lost: bool) -> [u64; 64]
-    requires { ⌜ Ready (viewOf b) ⌝ }
-    ensures { λ r. ⌜ Gathered (viewOf b) lost r ⌝ }
-{
-    let n = b.unit_count;
-    let mut arrived = [0u64; 64];
-    let mut water = [0u64; 64];
-    let mut i = 0;
-    while i < n {
-        let u = b.units[i];
-        let here = arrived[i] + part(lost, u);
-        water[i] = here;
-        let d = u.downstream as usize;
-        if 0 < d {
-            let k = d - 1;
-            arrived[k] = arrived[k] + here;
-        }
-        i += 1;
-    }
-    water
 }

@@ -5,9 +5,10 @@ mod reserve;
 mod search;
 
 pub use figures::aquifer_figures;
+pub use figures::of_aquifer;
 pub use figures::unit_figures;
 pub use flow::flow_amounts;
-pub use flow::gathered;
+pub use reserve::committed;
 pub use search::first_negative;
 
 // What the forward pass works out of each unit: all that is gained and lost at it and above it, the running total before it at its
