@@ -7,19 +7,21 @@ use lib.Dec.{eqb}
 use borrow.Author.Tests.{eq-eqb, ne-eqb}
 use native.Mathlib.Nat.{mul-le-mul-right}
 use native.Mathlib.Omega.{arith}
-use Rattle.laws.specs.Sum.{naturals, sumOf, only}
+use Rattle.laws.specs.Sum.{naturals, integers, sumOf, only}
+use Rattle.laws.specs.Gather.{arriving}
 use Rattle.laws.proofs.Cases.{by-eq}
-use lib.IntN.{pos, _-ℤ_}
-use Rattle.laws.proofs.Parts.{less-monus, less-above, less-is, less-pos, less-minus, less-equal}
+use lib.IntN.{ℤ, pos, _-ℤ_}
+use lib.Signed.{nonNeg}
+use Rattle.laws.proofs.Parts.{Less, less-monus, less-above, less-is, less-pos, less-plus, less-minus, less-equal, nonNeg-true}
 use Rattle.river.specs.declared.UnitFigures.{UnitFigures}
 use Rattle.river.specs.Figures.{unitFigures}
-use Rattle.laws.proofs.Gathering.{sum-prefix, sum-monotone}
+use Rattle.laws.proofs.Gathering.{sum-prefix, sum-monotone, related-arriving}
 use Rattle.laws.proofs.Splitting.{floor-le}
 use Rattle.model.specs.View.{View}
-use Rattle.river.specs.Flow.{downstream, flow, gathered, Ready}
+use Rattle.river.specs.Flow.{downstream, flow, gain, loss, gathered, Ready}
 use Rattle.river.specs.Reserve.{contribution, runningTotal, total, demand, share, shareAbove, committedTo, committed, ownReserve}
 use Rattle.river.specs.Passes.{Splits, figuresFrom}
-use Rattle.river.proofs.Flows.{flow-parts, gathered-is, gathered-small}
+use Rattle.river.proofs.Flows.{flow-is, flow-parts, net-parts, gathered-is, gathered-small}
 
 -- A unit contributes what it gathers less what it loses.
 pub contribution-is : (v : View) (j : ℕ) → contribution v j ≡ gathered v false j - gathered v true j
@@ -27,6 +29,17 @@ contribution-is v j = less-monus (flow-parts v j)
 
 contribution-within : (v : View) (j : ℕ) → contribution v j ≤ gathered v false j
 contribution-within v j = less-above (flow-parts v j)
+
+-- Where no unit before unit i has a negative flow, the flow of unit i is what these contribute to it and what it gains, less what it loses.
+pub flow-reached : (v : View) (i : ℕ) → ((k : ℕ) → k < i → nonNeg (flow v k) ≡ true)
+    → Less (flow v i) (arriving naturals (downstream v) (contribution v) i i + gain (v .unit i)) (loss (v .unit i))
+flow-reached v i h =
+    let p =
+    related-arriving integers naturals naturals (λ (z : ℤ) (a b : ℕ). Less z a 0) (record { parts = refl })
+    (λ a a′ b b′ c c′ p q. less-plus p q) (downstream v) i i (flow v) (contribution v) (contribution v)
+    (λ k g. record { parts = omega (arith, nonNeg-true (flow v k) (h k g)) }) in
+    let q = less-plus p (net-parts (v .unit i)) in
+    rw (flow-is v i) (record { parts = omega (arith, q .parts) })
 
 only-within : (t : Bool) (a b : ℕ) → a ≤ b → only naturals t a ≤ only naturals t b
 only-within true a b h = h

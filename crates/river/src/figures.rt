@@ -1,19 +1,16 @@
 // The figures of all units and aquifers of a balance.
 ghost use mathlib.Core.Path.{_≡_};
 ghost use Prim.Native.Nat.{_≤_};
-ghost use mathlib.Core.Bool.{true, false};
 ghost use Rattle.laws.specs.Signed.{above, below};
 ghost use Rattle.model.specs.View.{viewOf};
-ghost use Rattle.river.specs.Flow.{Ready, Gathered};
-ghost use Rattle.river.specs.Passes.{RunningTotals, CommittedVolumes, Splits, figuresFrom};
+ghost use Rattle.river.specs.Flow.{Ready};
+ghost use Rattle.river.specs.Passes.{Splits, figuresFrom};
 ghost use Rattle.river.specs.Figures as figures;
 use crate::AquiferFigures;
 use crate::UnitFigures;
-use crate::flow::gathered;
-use crate::reserve::Totals;
+use crate::flow::flow_amounts;
 use crate::reserve::committed;
 use crate::reserve::from_own;
-use crate::reserve::running;
 use model::Aquifer;
 use model::Balance;
 use model::Unit;
@@ -35,23 +32,15 @@ fn of_unit(u: Unit, gained: u64, lost: u64, arrived: u64, committed: u64) -> Uni
     }
 }
 
-// Over the units: the figures of each.
-fn of_units(
-    b: Balance,
-    gained: [u64; 64],
-    lost: [u64; 64],
-    run: Totals,
-    volumes: [u64; 64],
-) -> [UnitFigures; 64]
+// The figures of every unit of a balance whose passes over the tree are safe: forward for the flows, backward for the committed volumes, and
+// then each unit's figures.
+pub fn unit_figures(b: Balance) -> [UnitFigures; 64]
     requires { ⌜ Ready (viewOf b) ⌝ }
-    requires { ⌜ Gathered (viewOf b) false gained ⌝ }
-    requires { ⌜ Gathered (viewOf b) true lost ⌝ }
-    requires { ⌜ RunningTotals (viewOf b) (run .before) (run .arrived) ⌝ }
-    requires { ⌜ CommittedVolumes (viewOf b) volumes ⌝ }
     ensures { λ r. ⌜ r ≡ figures.allUnitFigures (viewOf b) ⌝ }
 {
     let n = b.unit_count;
-    let arrived = run.arrived;
+    let f = flow_amounts(b);
+    let volumes = committed(b, f);
     let none = UnitFigures {
         flow: 0,
         committed: 0,
@@ -62,27 +51,15 @@ fn of_units(
     let mut i = 0;
     while i < n {
         let u = b.units[i];
-        let f = of_unit(u, gained[i], lost[i], arrived[i], volumes[i]);
-        all[i] = f;
+        let x = of_unit(u, f.gained[i], f.lost[i], f.arrived[i], volumes[i]);
+        all[i] = x;
         i += 1;
     }
     all
 }
 
-// The figures of every unit of a balance whose passes over the tree are safe.
-pub fn unit_figures(b: Balance) -> [UnitFigures; 64]
-    requires { ⌜ Ready (viewOf b) ⌝ }
-    ensures { λ r. ⌜ r ≡ figures.allUnitFigures (viewOf b) ⌝ }
-{
-    let gained = gathered(b, false);
-    let lost = gathered(b, true);
-    let run = running(b, gained, lost);
-    let volumes = committed(b, gained, lost, run);
-    of_units(b, gained, lost, run, volumes)
-}
-
 // An aquifer's recharge and availability, from what it gains and what it loses.
-fn of_aquifer(a: Aquifer) -> AquiferFigures
+pub fn of_aquifer(a: Aquifer) -> AquiferFigures
     requires { ⌜ (above (a .storage) ≤ 10000000) × (below (a .storage) ≤ 10000000) ⌝ }
     ensures { λ r. ⌜ r ≡ figures.figuresOf a ⌝ }
 {

@@ -1,58 +1,68 @@
 // Flow: what each unit gains and loses, gathered down the tree.
 ghost use mathlib.Core.Path.{_≡_};
+ghost use mathlib.Core.Bool.{true, false};
 ghost use Rattle.model.specs.View.{viewOf};
-ghost use Rattle.river.specs.Flow as flows;
+ghost use Rattle.river.specs.Flow as river;
 ghost use Rattle.river.specs.Flow.{Ready, Gathered};
+ghost use Rattle.river.specs.Passes.{RunningTotals};
+use crate::Amounts;
+use crate::reserve::contribution;
 use model::Balance;
 use model::Unit;
 
 // What a unit gains: natural runoff, returns, imports and the fall of its storage.
-fn gain(u: Unit) -> u64
-    requires { ⌜ flows.Small u ⌝ }
-    ensures { λ r. ⌜ r ≡ flows.gain u ⌝ }
+pub fn gain(u: Unit) -> u64
+    requires { ⌜ river.Small u ⌝ }
+    ensures { λ r. ⌜ r ≡ river.gain u ⌝ }
 {
     let storage = u.storage;
     (u.runoff as u64) + (u.returns as u64) + (u.imports as u64) + laws::below(storage)
 }
 
 // What a unit loses: exports, extraction, evaporation and the rise of its storage.
-fn loss(u: Unit) -> u64
-    requires { ⌜ flows.Small u ⌝ }
-    ensures { λ r. ⌜ r ≡ flows.loss u ⌝ }
+pub fn loss(u: Unit) -> u64
+    requires { ⌜ river.Small u ⌝ }
+    ensures { λ r. ⌜ r ≡ river.loss u ⌝ }
 {
     let storage = u.storage;
     (u.exports as u64) + (u.extraction as u64) + (u.evaporation as u64) + laws::above(storage)
 }
 
-fn part(lost: bool, u: Unit) -> u64
-    requires { ⌜ flows.Small u ⌝ }
-    ensures { λ r. ⌜ r ≡ flows.part lost u ⌝ }
-{
-    if lost {
-        return loss(u);
-    }
-    gain(u)
-}
-
-// All that is lost, or gained, at each unit and above it: each unit's own part goes on to its downstream unit.
-pub fn gathered(b: Balance, lost: bool) -> [u64; 64]
+// Forward over the units: all that is gained and lost at each unit and above it goes on to its downstream unit, and its contribution is
+// added to what has arrived there.
+pub fn flow_amounts(b: Balance) -> Amounts
     requires { ⌜ Ready (viewOf b) ⌝ }
-    ensures { λ r. ⌜ Gathered (viewOf b) lost r ⌝ }
+    ensures { λ r. ⌜ Gathered (viewOf b) false (r .gained) ⌝ }
+    ensures { λ r. ⌜ Gathered (viewOf b) true (r .lost) ⌝ }
+    ensures { λ r. ⌜ RunningTotals (viewOf b) (r .before) (r .arrived) ⌝ }
 {
     let n = b.unit_count;
+    let mut gained = [0u64; 64];
+    let mut lost = [0u64; 64];
+    let mut before = [0u64; 64];
     let mut arrived = [0u64; 64];
-    let mut water = [0u64; 64];
     let mut i = 0;
     while i < n {
         let u = b.units[i];
-        let here = arrived[i] + part(lost, u);
-        water[i] = here;
+        let more = gained[i] + gain(u);
+        let less = lost[i] + loss(u);
+        gained[i] = more;
+        lost[i] = less;
         let d = u.downstream as usize;
         if 0 < d {
             let k = d - 1;
-            arrived[k] = arrived[k] + here;
+            gained[k] = gained[k] + more;
+            lost[k] = lost[k] + less;
+            let found = arrived[k];
+            before[i] = found;
+            arrived[k] = found + contribution(more, less);
         }
         i += 1;
     }
-    water
+    Amounts {
+        gained,
+        lost,
+        before,
+        arrived,
+    }
 }

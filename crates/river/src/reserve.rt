@@ -7,17 +7,12 @@ ghost use Rattle.river.specs.Reserve as reserves;
 ghost use Rattle.river.specs.Passes.{RunningTotals, CommittedVolumes, Splits, fromBelow, fromOwn};
 ghost use mathlib.Core.Bool.{true, false, cond};
 ghost use lib.Dec.{eqb};
+use crate::Amounts;
 use model::Balance;
 use model::Unit;
 
-// The running total before each unit at its downstream unit, and at each unit the total of the units that drain straight into it.
-pub struct Totals {
-    pub before: [u64; 64],
-    pub arrived: [u64; 64],
-}
-
 // What a unit contributes to its downstream unit: its flow, or 0 where that is negative.
-fn contribution(gained: u64, lost: u64) -> u64
+pub fn contribution(gained: u64, lost: u64) -> u64
     ensures { λ r. ⌜ r ≡ gained - lost ⌝ }
 {
     if gained < lost {
@@ -88,44 +83,16 @@ pub fn from_own(u: Unit, committed: u64, arrived: u64) -> u64
     share_own(demand(u, committed), arrived + inflow(u), arrived)
 }
 
-// Forward over the units: what each unit finds at its downstream unit, and leaves there.
-pub fn running(b: Balance, gained: [u64; 64], lost: [u64; 64]) -> Totals
-    requires { ⌜ Ready (viewOf b) ⌝ }
-    requires { ⌜ Gathered (viewOf b) false gained ⌝ }
-    requires { ⌜ Gathered (viewOf b) true lost ⌝ }
-    ensures { λ r. ⌜ RunningTotals (viewOf b) (r .before) (r .arrived) ⌝ }
-{
-    let n = b.unit_count;
-    let mut before = [0u64; 64];
-    let mut arrived = [0u64; 64];
-    let mut i = 0;
-    while i < n {
-        let u = b.units[i];
-        let d = u.downstream as usize;
-        if 0 < d {
-            let k = d - 1;
-            let found = arrived[k];
-            before[i] = found;
-            arrived[k] = found + contribution(gained[i], lost[i]);
-        }
-        i += 1;
-    }
-    Totals { before, arrived }
-}
-
 // Backward over the units: an outlet's committed volume is its commitment, another unit's is its share of the demand below.
-pub fn committed(b: Balance, gained: [u64; 64], lost: [u64; 64], run: Totals) -> [u64; 64]
+pub fn committed(b: Balance, f: Amounts) -> [u64; 64]
     requires { ⌜ Ready (viewOf b) ⌝ }
-    requires { ⌜ Gathered (viewOf b) false gained ⌝ }
-    requires { ⌜ Gathered (viewOf b) true lost ⌝ }
-    requires { ⌜ RunningTotals (viewOf b) (run .before) (run .arrived) ⌝ }
+    requires { ⌜ Gathered (viewOf b) false (f .gained) ⌝ }
+    requires { ⌜ Gathered (viewOf b) true (f .lost) ⌝ }
+    requires { ⌜ RunningTotals (viewOf b) (f .before) (f .arrived) ⌝ }
     ensures { λ r. ⌜ CommittedVolumes (viewOf b) r ⌝ }
 {
-    let n = b.unit_count;
-    let before = run.before;
-    let arrived = run.arrived;
     let mut volumes = [0u64; 64];
-    let mut i = n;
+    let mut i = b.unit_count;
     while 0 < i {
         i -= 1;
         let u = b.units[i];
@@ -133,8 +100,8 @@ pub fn committed(b: Balance, gained: [u64; 64], lost: [u64; 64], run: Totals) ->
         if 0 < d {
             let k = d - 1;
             let w = b.units[k];
-            let own = contribution(gained[i], lost[i]);
-            volumes[i] = from_below(w, volumes[k], arrived[k], before[i], own);
+            let own = contribution(f.gained[i], f.lost[i]);
+            volumes[i] = from_below(w, volumes[k], f.arrived[k], f.before[i], own);
         } else {
             volumes[i] = u.commitment as u64;
         }

@@ -17,11 +17,11 @@ use Rattle.river.proofs.reserve.committed.Statement.{statement}
 use Rattle.river.proofs.reserve.committed.Tie as tie
 
 abbrev Inv-loop : tie.InvT-loop
-Inv-loop b gained lost n before arrived volumes₀ i₀ volumes i =
-    (i ≤ n) × FilledDown 64 0 (committed (viewOf b)) n i volumes
+Inv-loop b f volumes₀ i₀ volumes i =
+    (i ≤ viewOf b .units) × FilledDown 64 0 (committed (viewOf b)) (viewOf b .units) i volumes
 
 abbrev μ-loop : tie.MeasureT-loop
-μ-loop b gained lost n before arrived volumes₀ i₀ volumes i = i
+μ-loop b f volumes₀ i₀ volumes i = i
 
 loop-holds : tie.Need-loop-holds Inv-loop μ-loop
 loop-holds c = (omega arith, filled-down-start 64 0 _ _)
@@ -45,27 +45,27 @@ mul-w : tie.Need-mul-w Inv-loop μ-loop
 mul-w c = omega arith
 
 onward : (c : tie.Then1 Inv-loop μ-loop)
-    → Below (viewOf (c .before .before .before .before .before .before .before .args .t1)) (c .before .before .before .before .loop .i - 1)
+    → Below (viewOf (c .before .before .before .before .before .args .t1)) (c .before .before .before .before .loop .i - 1)
 onward c =
-    below-of (viewOf (c .before .before .before .before .before .before .before .args .t1)) (c .before .before .before .before .before .before .before .pre .0)
+    below-of (viewOf (c .before .before .before .before .before .args .t1)) (c .before .before .before .before .before .pre .0)
     (c .before .before .before .before .loop .i - 1)
     (omega (arith, c .before .before .before .before .loop .inv .0, c .before .before .before .loop-test .taken))
     (omega (arith, c .if1 .taken))
 
 element-copy-out-w : tie.Need-element-copy-out-w Inv-loop μ-loop
-element-copy-out-w c = omega (arith, onward c .within, c .before .before .before .before .before .before .before .pre .0 .few)
+element-copy-out-w c = omega (arith, onward c .within, c .before .before .before .before .before .pre .0 .few)
 
 mul-contribution : tie.Need-mul-contribution Inv-loop μ-loop
 mul-contribution c = omega arith
 
-array-read-contribution : tie.Need-array-read-contribution Inv-loop μ-loop
-array-read-contribution c = omega arith
+element-copy-out-contribution : tie.Need-element-copy-out-contribution Inv-loop μ-loop
+element-copy-out-contribution c = omega arith
 
 mul-contribution-2 : tie.Need-mul-contribution-2 Inv-loop μ-loop
 mul-contribution-2 c = omega arith
 
-array-read-contribution-2 : tie.Need-array-read-contribution-2 Inv-loop μ-loop
-array-read-contribution-2 c = omega arith
+element-copy-out-contribution-2 : tie.Need-element-copy-out-contribution-2 Inv-loop μ-loop
+element-copy-out-contribution-2 c = omega arith
 
 contribution-requires : tie.Need-contribution-requires Inv-loop μ-loop
 contribution-requires c κs = search needs
@@ -74,19 +74,19 @@ mul-from-below : tie.Need-mul-from-below Inv-loop μ-loop
 mul-from-below c = omega arith
 
 array-read-from-below : tie.Need-array-read-from-below Inv-loop μ-loop
-array-read-from-below c = element-copy-out-w (c .before .before)
+array-read-from-below c = element-copy-out-w (c .before .before .before .before)
 
 mul-from-below-2 : tie.Need-mul-from-below-2 Inv-loop μ-loop
 mul-from-below-2 c = omega arith
 
-array-read-from-below-2 : tie.Need-array-read-from-below-2 Inv-loop μ-loop
-array-read-from-below-2 c = element-copy-out-w (c .before .before)
+element-copy-out-from-below : tie.Need-element-copy-out-from-below Inv-loop μ-loop
+element-copy-out-from-below c = element-copy-out-w (c .before .before .before .before)
 
 mul-from-below-3 : tie.Need-mul-from-below-3 Inv-loop μ-loop
 mul-from-below-3 c = omega arith
 
-array-read-from-below-3 : tie.Need-array-read-from-below-3 Inv-loop μ-loop
-array-read-from-below-3 c = omega arith
+element-copy-out-from-below-2 : tie.Need-element-copy-out-from-below-2 Inv-loop μ-loop
+element-copy-out-from-below-2 c = omega arith
 
 -- What the loop reads at the unit and at its downstream unit.
 record Read (v : View) (j volume arrived before own : ℕ) : Type 0 where
@@ -97,20 +97,20 @@ record Read (v : View) (j volume arrived before own : ℕ) : Type 0 where
 
 reads-of : (c : tie.After-contribution Inv-loop μ-loop)
     → Read (viewOf (c .before .before .before .before .before .before .before .before .before .args .t1))
-    (c .before .before .before .before .before .before .loop .i - 1)
-    (getD (c .before .before .before .before .before .before .loop .volumes)
-    (downstream (viewOf (c .before .before .before .before .before .before .before .before .before .args .t1)) (c .before .before .before .before .before .before .loop .i - 1) - 1) 0)
-    (getD (c .before .before .before .before .before .before .before .before .before .args .run .arrived)
-    (downstream (viewOf (c .before .before .before .before .before .before .before .before .before .args .t1)) (c .before .before .before .before .before .before .loop .i - 1) - 1) 0)
-    (getD (c .before .before .before .before .before .before .before .before .before .args .run .before) (c .before .before .before .before .before .before .loop .i - 1) 0)
+    (c .before .before .before .before .before .before .before .before .loop .i - 1)
+    (getD (c .before .before .before .before .before .before .before .before .loop .volumes)
+    (downstream (viewOf (c .before .before .before .before .before .before .before .before .before .args .t1)) (c .before .before .before .before .before .before .before .before .loop .i - 1) - 1) 0)
+    (getD (c .before .before .before .before .before .before .before .before .before .args .t2 .arrived)
+    (downstream (viewOf (c .before .before .before .before .before .before .before .before .before .args .t1)) (c .before .before .before .before .before .before .before .before .loop .i - 1) - 1) 0)
+    (getD (c .before .before .before .before .before .before .before .before .before .args .t2 .before) (c .before .before .before .before .before .before .before .before .loop .i - 1) 0)
     (c .contribution .result)
 reads-of c =
     let start = c .before .before .before .before .before .before .before .before .before in
     let v = viewOf (start .args .t1) in
-    let loop = c .before .before .before .before .before .before .loop in
+    let loop = c .before .before .before .before .before .before .before .before .loop in
     let j = loop .i - 1 in
-    let b = onward (c .before .before) in
-    let h : j < v .units = omega (arith, loop .inv .0, c .before .before .before .before .before .loop-test .taken) in
+    let b = onward (c .before .before .before .before) in
+    let h : j < v .units = omega (arith, loop .inv .0, c .before .before .before .before .before .before .before .loop-test .taken) in
     let r = start .pre .1 .1 .1 in
     record {
       volume-is = rw (sub-one (downstream v j)) (loop .inv .1 .done (pred (downstream v j)) (omega (arith, b .later)) (b .within));
@@ -124,11 +124,11 @@ reads-of c =
 
 from-below-requires : tie.Need-from-below-requires Inv-loop μ-loop
 from-below-requires c κs =
-    let start = c .before .before .before .before .before .before .before .before .before in
+    let start = c .before .before .before .before .before .before .before .before .before .before .before in
     let v = viewOf (start .args .t1) in
-    let j = c .before .before .before .before .before .before .loop .i - 1 in
-    let b = onward (c .before .before) in
-    let q = reads-of c in
+    let j = c .before .before .before .before .before .before .before .before .before .before .loop .i - 1 in
+    let b = onward (c .before .before .before .before .before .before) in
+    let q = reads-of (c .before .before) in
     rw (q .volume-is, q .arrived-is, q .before-is, q .own-is, sub-one (downstream v j))
     (splits v (start .pre .0) (pred (downstream v j)) (b .within), running-within v j b)
 
@@ -139,19 +139,19 @@ array-write-volumes : tie.Need-array-write-volumes Inv-loop μ-loop
 array-write-volumes c = omega arith
 
 loop-less : tie.Need-loop-less Inv-loop μ-loop
-loop-less c = falls-down _ (c .before .before .before .before .before .before .loop-test .taken)
+loop-less c = falls-down _ (c .before .before .before .before .before .before .before .before .before .before .loop-test .taken)
 
 loop-again : tie.Need-loop-again Inv-loop μ-loop
 loop-again c =
-    let start = c .before .before .before .before .before .before .before .before .before .before in
+    let start = c .before .before .before .before .before .before .before .before .before .before .before .before in
     let v = viewOf (start .args .t1) in
-    let loop = c .before .before .before .before .before .before .before .loop in
+    let loop = c .before .before .before .before .before .before .before .before .before .before .before .loop in
     let j = loop .i - 1 in
-    let b = onward (c .before .before .before) in
-    let t = c .before .before .before .before .before .before .loop-test .taken in
+    let b = onward (c .before .before .before .before .before .before .before) in
+    let t = c .before .before .before .before .before .before .before .before .before .before .loop-test .taken in
     let h : j < v .units = omega (arith, loop .inv .0) in
     let e : loop .i ≡ suc j = omega (arith, t) in
-    let q = reads-of (c .before) in (
+    let q = reads-of (c .before .before .before) in (
       omega (arith, h),
       filled-down-more 64 0 (committed v) (v .units) j (loop .volumes) _ (omega (arith, start .pre .0 .few)) h
           ((rw (q .volume-is, q .arrived-is, q .before-is, q .own-is, sub-one (downstream v j)) at (c .from-below .ensures))
@@ -173,7 +173,7 @@ loop-less-2 c = falls-down _ (c .before .before .before .before .loop-test .take
 
 loop-again-2 : tie.Need-loop-again-2 Inv-loop μ-loop
 loop-again-2 c =
-    let start = c .before .before .before .before .before .before .before .before in
+    let start = c .before .before .before .before .before .before in
     let v = viewOf (start .args .t1) in
     let loop = c .before .before .before .before .before .loop in
     let j = loop .i - 1 in
@@ -206,16 +206,16 @@ committed-spec =
     mul-w
     element-copy-out-w
     mul-contribution
-    array-read-contribution
+    element-copy-out-contribution
     mul-contribution-2
-    array-read-contribution-2
+    element-copy-out-contribution-2
     contribution-requires
     mul-from-below
     array-read-from-below
     mul-from-below-2
-    array-read-from-below-2
+    element-copy-out-from-below
     mul-from-below-3
-    array-read-from-below-3
+    element-copy-out-from-below-2
     from-below-requires
     mul-volumes
     array-write-volumes

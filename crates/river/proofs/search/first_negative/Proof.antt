@@ -1,47 +1,130 @@
--- `river::first_negative` meets its contract. The loop's invariant: at each of the first i units no more is lost than gained. Assumes nothing.
-use Prim.Native.Nat.{ℕ, _≤_, _<_, _-_}
-use mathlib.Core.Path.{_≡_, ap, sym}
+-- `river::first_negative` meets its contract. The loop's invariant: none of the first i units has a negative flow, and `arrived` holds what
+-- those contributed to each unit. Assumes nothing.
+use Prim.Native.Nat.{ℕ, suc, pred, _≤_, _<_, _+_, _-_}
+use mathlib.Core.Path.{_≡_, ap, sym, _∙_}
+use mathlib.Core.Logic.{⊎-elim}
 use mathlib.Core.Bool.{true, false, not}
 use native.Mathlib.Omega.{arith}
-use borrow.Author.Count.{below-none, below-more}
-use borrow.Author.Needs.{needs}
-use mathlib.Core.List.{List}
+use native.Mathlib.Numerals.{add-one, sub-one}
+use borrow.Author.Count.{below-none, below-more, falls}
 use lib.ListN.{getD}
 use lib.Signed.{nonNeg}
-use Rattle.laws.proofs.Parts.{less-nonNeg, less-negative}
+use Rattle.laws.specs.Sum.{naturals}
+use Rattle.laws.specs.Gather.{arriving}
+use Rattle.laws.proofs.Parts.{Less, less-monus, less-nonNeg, less-negative}
+use Rattle.laws.proofs.Arrays.{Arrived, arrived-start, arrived-out, arrived-on}
 use Rattle.model.specs.View.{View, viewOf}
-use Rattle.river.specs.Flow.{flow, Gathered}
-use Rattle.river.proofs.Flows.{flow-parts}
+use Rattle.river.specs.Flow.{downstream, flow}
+use Rattle.river.specs.Reserve.{contribution, total}
+use Rattle.river.proofs.Flows.{small}
+use Rattle.river.proofs.Reserves.{Below, below-of, flow-reached, running-within, total-small}
 use Rattle.river.proofs.Firsts.{first-at, first-nothing}
 use Rattle.river.proofs.search.first_negative.Statement.{statement}
 use Rattle.river.proofs.search.first_negative.Tie as tie
 
 abbrev Inv-loop : tie.InvT-loop
-Inv-loop n gained lost i₀ i = (i ≤ n) × ((k : ℕ) → k < i → getD lost k 0 ≤ getD gained k 0)
+Inv-loop b n arrived₀ i₀ arrived i =
+    (i ≤ n)
+    × ((k : ℕ) → k < i → nonNeg (flow (viewOf b) k) ≡ true)
+    × Arrived 64 (downstream (viewOf b)) (contribution (viewOf b)) i arrived
 
 abbrev μ-loop : tie.MeasureT-loop
-μ-loop n gained lost i₀ i = n - i
-
-gathered-requires : tie.Need-gathered-requires Inv-loop μ-loop
-gathered-requires c κs = search needs
-
-gathered-requires-2 : tie.Need-gathered-requires-2 Inv-loop μ-loop
-gathered-requires-2 c κs = search needs
+μ-loop b n arrived₀ i₀ arrived i = n - i
 
 loop-holds : tie.Need-loop-holds Inv-loop μ-loop
-loop-holds c = (omega arith, below-none _)
+loop-holds c = (omega arith, below-none _, arrived-start 64 _ _)
 
-mul-if2 : tie.Need-mul-if2 Inv-loop μ-loop
-mul-if2 c = omega arith
+mul-u : tie.Need-mul-u Inv-loop μ-loop
+mul-u c = omega arith
 
-array-read-if2 : tie.Need-array-read-if2 Inv-loop μ-loop
-array-read-if2 c = omega arith
+element-copy-out-u : tie.Need-element-copy-out-u Inv-loop μ-loop
+element-copy-out-u c = omega arith
 
-mul-if2-2 : tie.Need-mul-if2-2 Inv-loop μ-loop
-mul-if2-2 c = omega arith
+mul-gained : tie.Need-mul-gained Inv-loop μ-loop
+mul-gained c = omega arith
 
-array-read-if2-2 : tie.Need-array-read-if2-2 Inv-loop μ-loop
-array-read-if2-2 c = omega arith
+array-read-gained : tie.Need-array-read-gained Inv-loop μ-loop
+array-read-gained c = omega arith
+
+gain-requires : tie.Need-gain-requires Inv-loop μ-loop
+gain-requires c κs =
+    small (viewOf (c .before .before .before .args .t1)) (c .before .before .before .pre) _ (omega (arith, c .before .if1 .left))
+
+add-gained : tie.Need-add-gained Inv-loop μ-loop
+add-gained c =
+    let start = c .before .before .before .before in
+    let v = viewOf (start .args .t1) in
+    let loop = c .before .before .before .loop in
+    let h : loop .i < v .units = omega (arith, c .before .before .if1 .left) in
+    omega (
+      arith,
+      loop .inv .2 .each (loop .i) (array-read-gained (c .before)),
+      total-small v (start .pre) (loop .i) h,
+      c .gain .ensures,
+      start .pre .gains (loop .i) h,
+    )
+
+loss-requires : tie.Need-loss-requires Inv-loop μ-loop
+loss-requires c κs = gain-requires (c .before) κs
+
+-- What the loop compares at unit i: its flow is the one less the other.
+reached : (c : tie.After-loss Inv-loop μ-loop)
+    → Less (flow (viewOf (c .before .before .before .before .before .args .t1)) (c .before .before .before .before .loop .i))
+    (getD (c .before .before .before .before .loop .arrived) (c .before .before .before .before .loop .i) 0 + c .before .gain .result)
+    (c .loss .result)
+reached c =
+    let loop = c .before .before .before .before .loop in
+    rw (loop .inv .2 .each (loop .i) (array-read-gained (c .before .before)), c .before .gain .ensures, c .loss .ensures)
+    (flow-reached (viewOf (c .before .before .before .before .before .args .t1)) (loop .i) (loop .inv .1))
+
+cast-d : tie.Need-cast-d Inv-loop μ-loop
+cast-d c = omega arith
+
+sub-k : tie.Need-sub-k Inv-loop μ-loop
+sub-k c = omega arith
+
+onward : (c : tie.Then3 Inv-loop μ-loop)
+    → Below (viewOf (c .before .before .before .before .before .before .before .before .args .t1)) (c .before .before .before .before .before .before .before .loop .i)
+onward c =
+    let start = c .before .before .before .before .before .before .before .before in
+    below-of (viewOf (start .args .t1)) (start .pre) (c .before .before .before .before .before .before .before .loop .i)
+    (omega (arith, c .before .before .before .before .before .before .if1 .left)) (omega (arith, c .if3 .taken))
+
+mul-arrived : tie.Need-mul-arrived Inv-loop μ-loop
+mul-arrived c = omega arith
+
+array-read-arrived : tie.Need-array-read-arrived Inv-loop μ-loop
+array-read-arrived c = omega (arith, onward c .within, c .before .before .before .before .before .before .before .before .pre .few)
+
+-- The unit's contribution goes on to its downstream unit.
+contributed : (c : tie.After-struct-known Inv-loop μ-loop)
+    → getD (c .before .before .before .before .before .before .loop .arrived) (c .before .before .before .before .before .before .loop .i) 0
+    + c .before .before .before .gain .result - c .before .before .loss .result
+    ≡ contribution (viewOf (c .before .before .before .before .before .before .before .args .t1)) (c .before .before .before .before .before .before .loop .i)
+contributed c = sym (less-monus (reached (c .before .before)))
+
+here : (v : View) (i : ℕ) → Below v i
+    → arriving naturals (downstream v) (contribution v) i (downstream v i - 1) + contribution v i ≤ total v (pred (downstream v i))
+here v i b = rw (sub-one (downstream v i)) (running-within v i b)
+
+add-arrived : tie.Need-add-arrived Inv-loop μ-loop
+add-arrived c =
+    let start = c .before .before .before .before .before .before .before .before in
+    let v = viewOf (start .args .t1) in
+    let loop = c .before .before .before .before .before .before .before .loop in
+    omega (
+      arith,
+      loop .inv .2 .each (downstream v (loop .i) - 1) (array-read-arrived c),
+      contributed (c .before),
+      here v (loop .i) (onward c),
+      total-small v (start .pre) (pred (downstream v (loop .i))) (onward c .within),
+    )
+
+mul-arrived-2 : tie.Need-mul-arrived-2 Inv-loop μ-loop
+mul-arrived-2 c = omega arith
+
+array-write-arrived : tie.Need-array-write-arrived Inv-loop μ-loop
+array-write-arrived c = array-read-arrived c
 
 add-i : tie.Need-add-i Inv-loop μ-loop
 add-i c = omega arith
@@ -49,35 +132,35 @@ add-i c = omega arith
 loop-less : tie.Need-loop-less Inv-loop μ-loop
 loop-less c = omega arith
 
--- A unit at which no more is lost than gained has a flow that is not negative, and another has a negative flow.
-fine : (v : View) (g l : List ℕ) → Gathered v false g → Gathered v true l → (k : ℕ) → k < v .units → getD l k 0 ≤ getD g k 0
-    → not (nonNeg (flow v k)) ≡ false
-fine v g l p q k h e = ap not (less-nonNeg (flow-parts v k) (omega (arith, p .each k h, q .each k h)))
-
-faulty : (v : View) (g l : List ℕ) → Gathered v false g → Gathered v true l → (k : ℕ) → k < v .units → getD g k 0 < getD l k 0
-    → not (nonNeg (flow v k)) ≡ true
-faulty v g l p q k h e = ap not (less-negative (flow-parts v k) (omega (arith, p .each k h, q .each k h)))
-
 loop-again : tie.Need-loop-again Inv-loop μ-loop
-loop-again c = (omega arith, below-more _ _ (c .before .before .loop .inv .1) (c .if2 .left))
+loop-again c =
+    let start = c .before .before .before .before .before .before .before .before in
+    let v = viewOf (start .args .t1) in
+    let loop = c .before .before .before .before .before .before .before .loop in
+    let i = loop .i in (
+      omega arith,
+      below-more _ _ (loop .inv .1) (less-nonNeg (reached (c .before .before .before)) (omega (arith, c .before .before .if2 .left))),
+      rw (add-one i)
+          (⊎-elim
+          (λ w.
+          let k = array-read-arrived (record { before = c .before; if3 = w .0 }) in
+          let e : downstream v i ≡ suc (downstream v i - 1) = omega (arith, w .0 .taken) in
+          rw (w .1, contributed (c .before)) (arrived-on 64 (downstream v) (contribution v) i (downstream v i - 1) (loop .arrived) e k (loop .inv .2)))
+          (λ w. rw (w .1) (arrived-out 64 (downstream v) (contribution v) i (loop .arrived) (omega (arith, w .0 .left)) (loop .inv .2)))
+          (c .if3 .came)),
+    )
 
 returns : tie.Need-returns Inv-loop μ-loop
 returns c =
-    let start = c .before .before .before .before in
-    let v = viewOf (start .args .b) in
-    let g = c .before .before .before .gathered .ensures in
-    let l = c .before .before .gathered2 .ensures in
-    sym (first-nothing _ (v .units) (λ k h. fine v _ _ g l k h (c .before .loop .inv .1 k (omega (arith, c .if1 .taken)))))
+    let v = viewOf (c .before .before .args .t1) in
+    sym (first-nothing _ (v .units) (λ k h. ap not (c .before .loop .inv .1 k (omega (arith, c .if1 .taken)))))
 
 returns-2 : tie.Need-returns-2 Inv-loop μ-loop
 returns-2 c =
-    let start = c .before .before .before .before .before in
-    let v = viewOf (start .args .b) in
-    let g = c .before .before .before .before .gathered .ensures in
-    let l = c .before .before .before .gathered2 .ensures in
-    let loop = c .before .before .loop in
-    let h : loop .i < v .units = omega (arith, c .before .if1 .left) in
-    sym (first-at _ (v .units) (loop .i) h (λ k a. fine v _ _ g l k (omega arith) (loop .inv .1 k a)) (faulty v _ _ g l (loop .i) h (c .if2 .taken)))
+    let v = viewOf (c .before .before .before .before .before .before .args .t1) in
+    let loop = c .before .before .before .before .before .loop in
+    sym (first-at _ (v .units) (loop .i) (omega (arith, c .before .before .before .before .if1 .left)) (λ k h. ap not (loop .inv .1 k h))
+    (ap not (less-negative (reached (c .before)) (c .if2 .taken))))
 
 pub first-negative-spec : {M : Type 1} → statement M
 first-negative-spec =
@@ -85,13 +168,21 @@ first-negative-spec =
     (tie.spec
     Inv-loop
     μ-loop
-    gathered-requires
-    gathered-requires-2
     loop-holds
-    mul-if2
-    array-read-if2
-    mul-if2-2
-    array-read-if2-2
+    mul-u
+    element-copy-out-u
+    mul-gained
+    array-read-gained
+    gain-requires
+    add-gained
+    loss-requires
+    cast-d
+    sub-k
+    mul-arrived
+    array-read-arrived
+    add-arrived
+    mul-arrived-2
+    array-write-arrived
     add-i
     loop-less
     loop-again
