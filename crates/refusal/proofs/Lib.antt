@@ -1,2 +1,3 @@
 pub mod Negative
 pub mod Granting
+pub mod Wanting

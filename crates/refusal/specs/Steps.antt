@@ -1,13 +1,11 @@
 -- The steps of a grant, by the numbers of the refusals; 0 where none applies. Assumes nothing.
-use Prim.Native.Nat.{ℕ, _≤_}
-use mathlib.Core.Bool.{Bool, cond, not, _&&_, _||_}
-use lib.Dec.{eqb, leb}
-use lib.Signed.{nonNeg}
+use Prim.Native.Nat.{ℕ, _+_, _≤_}
+use mathlib.Core.Bool.{Bool, cond, _&&_}
+use lib.Dec.{eqb, leb, ltb}
 use Rattle.model.specs.declared.Title.{Title}
 use Rattle.model.specs.declared.Title.the-variants.{UnitWithdrawal, AquiferWithdrawal, UnitTransfer, AquiferTransfer}
 use Rattle.model.specs.declared.Balance.{Balance}
 use Rattle.model.specs.View.{View}
-use Rattle.river.specs.declared.UnitFigures.{UnitFigures}
 use Rattle.basin.specs.Sound.{exists, isVolume}
 use Rattle.refusal.specs.Grant.{overfull, downstreamTransfer}
 
@@ -32,6 +30,6 @@ pub record Bounded (b : Balance) : Type 0 where
   pub units : b .«unit_count» ≤ 64
   pub aquifers : b .«aquifer_count» ≤ 32
 
--- A unit of an outlet's basin with a negative flow or a negative availability, by its figures.
-abbrev pub wantingFigures : ℕ → ℕ → UnitFigures → Bool
-wantingFigures end outlet f = eqb end outlet && (not (nonNeg (f .flow)) || not (nonNeg (f .availability)))
+-- A unit of an outlet's basin with a negative flow or a negative availability, by what is gained, lost and committed at it and above it.
+abbrev pub wantingAmounts : ℕ → ℕ → ℕ → ℕ → ℕ → Bool
+wantingAmounts end outlet gained lost committed = eqb end outlet && ltb gained (lost + committed)

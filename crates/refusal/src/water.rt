@@ -1,6 +1,6 @@
 // 17 no water, in a balance with the title in.
 ghost use mathlib.Core.Path.{_≡_};
-ghost use Prim.Native.Nat.{_<_};
+ghost use Prim.Native.Nat.{_≤_, _<_};
 ghost use Rattle.model.specs.View.{viewOf};
 ghost use Rattle.river.specs.Flow.{Ready};
 ghost use Rattle.river.specs.Figures.{WellsReady};
@@ -9,19 +9,16 @@ ghost use Rattle.effect.specs.Granted.{Named};
 ghost use Rattle.refusal.specs.Steps as steps;
 use model::Balance;
 use model::Title;
-use river::UnitFigures;
 
-// A unit of an outlet's basin with a negative flow or a negative availability.
-fn wanting(end: usize, outlet: usize, f: UnitFigures) -> bool
-    ensures { λ r. ⌜ r ≡ steps.wantingFigures end outlet f ⌝ }
+// A unit of an outlet's basin with a negative flow or a negative availability: with what is committed it loses more than it gains.
+fn wanting(end: usize, outlet: usize, gained: u64, lost: u64, committed: u64) -> bool
+    requires { ⌜ (lost ≤ 2560000000) × (committed ≤ 2570000000) ⌝ }
+    ensures { λ r. ⌜ r ≡ steps.wantingAmounts end outlet gained lost committed ⌝ }
 {
     if end != outlet {
         return false;
     }
-    if f.flow < 0 {
-        return true;
-    }
-    f.availability < 0
+    gained < lost + committed
 }
 
 // The outlet of the unit at an index, or some unit that drains there, has a negative flow or a negative availability.
@@ -29,14 +26,14 @@ fn dry(b: Balance, j: usize) -> bool
     requires { ⌜ Ready (viewOf b) × (j < viewOf b .units) ⌝ }
     ensures { λ r. ⌜ r ≡ grants.dry (viewOf b) j ⌝ }
 {
-    let figures = river::unit_figures(b);
+    let f = river::flow_amounts(b);
+    let volumes = river::committed(b, f);
     let ends = reach::outlets(b);
     let outlet = ends[j];
     let n = b.unit_count;
     let mut i = 0;
     while i < n {
-        let f = figures[i];
-        if wanting(ends[i], outlet, f) {
+        if wanting(ends[i], outlet, f.gained[i], f.lost[i], volumes[i]) {
             return true;
         }
         i += 1;
@@ -49,8 +46,8 @@ fn drained(b: Balance, k: usize) -> bool
     requires { ⌜ WellsReady (viewOf b) × (k < viewOf b .aquifers) ⌝ }
     ensures { λ r. ⌜ r ≡ grants.drained (viewOf b) k ⌝ }
 {
-    let figures = river::aquifer_figures(b);
-    let w = figures[k];
+    let a = b.aquifers[k];
+    let w = river::of_aquifer(a);
     w.availability < 0
 }
 

@@ -20,4 +20,3 @@ cancelRefusal v n = refuse 19 (not (inForce v n)) (refuse 20 (not (flowing (canc
 -- CA: the reply to a cancellation; accepted, it carries the cancelled number.
 abbrev pub cancelReply : Balance → ℕ → Reply
 cancelReply b n = replied (afterTest b (cancelRefusal (viewOf b) n)) b (withoutTitle b n) n
-

@@ -61,7 +61,7 @@ loop-less c = falls-down _ (c .before .before .before .before .before .before .l
 loop-again : tie.Need-loop-again Inv-loop μ-loop
 loop-again c = (
   rw (c .before .ask-tested .ensures .0)
-  (turn-asks _ _ _ _ _ _ _ (c .before .before .before .before .before .before .loop-test .taken) (c .before .before .before .before .before .before .before .loop .inv .0) (sym (c .before .before .before .before .before .call-at .ensures) ∙ c .before .before .before .call .given .1)),
+      (turn-asks _ _ _ _ _ _ _ (c .before .before .before .before .before .before .loop-test .taken) (c .before .before .before .before .before .before .before .loop .inv .0) (sym (c .before .before .before .before .before .call-at .ensures) ∙ c .before .before .before .call .given .1)),
   c .before .ask-tested .ensures .1,
 )
 

@@ -90,10 +90,11 @@ loop-less c = falls-down _ (c .before .before .before .before .before .before .b
 
 loop-again : tie.Need-loop-again Inv-loop μ-loop
 loop-again c =
-    let start = c .before .before .before .before .before .before .before .before .before .before .before .before .before .before in
-    (printing-replies (start .args .s .now) (start .args .from) (start .args .balance) _ _ _ _ _ _ _ _ _ _ _ _ _ (c .before .before .before .ask-tested .ensures .0)
-    (c .before .before .before .before .before .before .before .before .loop-test .taken) (c .before .before .before .before .before .before .before .before .before .loop .inv .0) (sym (c .before .before .before .before .before .before .before .call-at .ensures) ∙ c .before .before .before .before .before .call .given .1) (c .before .call-line .ensures),
-    c .before .before .before .ask-tested .ensures .1)
+    let start = c .before .before .before .before .before .before .before .before .before .before .before .before .before .before in (
+      printing-replies (start .args .s .now) (start .args .from) (start .args .balance) _ _ _ _ _ _ _ _ _ _ _ _ _ (c .before .before .before .ask-tested .ensures .0)
+          (c .before .before .before .before .before .before .before .before .loop-test .taken) (c .before .before .before .before .before .before .before .before .before .loop .inv .0) (sym (c .before .before .before .before .before .before .before .call-at .ensures) ∙ c .before .before .before .before .before .call .given .1) (c .before .call-line .ensures),
+      c .before .before .before .ask-tested .ensures .1,
+    )
 
 failed-requires-2 : tie.Need-failed-requires-2 Inv-loop μ-loop
 failed-requires-2 c κs = search needs
