@@ -20,16 +20,30 @@ stop-leb a b x h = stop (leb a b) x (lt-leb a b h)
 pub go-leb : (a b : ℕ) (x r : Bool) → a ≤ b → r ≡ x → r ≡ (leb a b && x)
 go-leb a b x r h e = go (leb a b) x r (le-leb a b h) e
 
--- and of a test that a call made.
+-- What a call's test says of the test that it made.
+pub call-holds : {s t : Bool} → s ≡ t → not s ≡ false → t ≡ true
+call-holds {s = s} e h = sym e ∙ not-false s h
+
+pub call-fails : {s t : Bool} → s ≡ t → not s ≡ true → t ≡ false
+call-fails {s = s} e h = sym e ∙ not-true s h
+
+-- A test that a call made ends the chain, or leaves the rest of it.
 pub stop-call : (s t x : Bool) → s ≡ t → not s ≡ true → false ≡ (t && x)
-stop-call s t x e h = stop t x (sym e ∙ not-true s h)
+stop-call s t x e h = stop t x (call-fails e h)
 
 pub go-call : (s t x r : Bool) → s ≡ t → not s ≡ false → r ≡ x → r ≡ (t && x)
-go-call s t x r e h g = go t x r (sym e ∙ not-false s h) g
+go-call s t x r e h g = go t x r (call-holds e h) g
 
 -- Both tests of a conjunction hold.
 pub both-hold : (s t : Bool) → s ≡ true → t ≡ true → (s && t) ≡ true
 both-hold s t e f = rw e f
+
+-- One test of a conjunction fails.
+pub first-fails : (s t : Bool) → s ≡ false → (s && t) ≡ false
+first-fails s t e = rw e
+
+pub second-fails : (s t : Bool) → s ≡ true → t ≡ false → (s && t) ≡ false
+second-fails s t e f = rw e f
 
 -- One test of a disjunction holds.
 pub either : (s t : Bool) → (s || t) ≡ true → (s ≡ true) ⊎ (t ≡ true)

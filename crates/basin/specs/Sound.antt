@@ -1,8 +1,10 @@
 -- The test for 0 (document 01, "What each operation refuses"): a call gives 0 if the balance handed to it is not sound. Assumes nothing.
 use Prim.Native.Nat.{ℕ, suc}
 use mathlib.Core.Bool.{Bool, not, _&&_, _||_}
+use mathlib.Core.List.{List}
 use lib.Dec.{eqb, leb, ltb}
 use lib.IntN.{ℤ, pos, negℤ}
+use lib.ListN.{getD}
 use lib.Signed.{leZ, nonNeg}
 use Rattle.laws.specs.Sum.{every}
 use Rattle.model.specs.declared.Unit.{Unit}
@@ -10,6 +12,7 @@ use Rattle.model.specs.declared.Aquifer.{Aquifer}
 use Rattle.model.specs.declared.Title.{Title}
 use Rattle.model.specs.declared.Title.the-variants.{UnitWithdrawal, AquiferWithdrawal, UnitTransfer, AquiferTransfer}
 use Rattle.model.specs.declared.Place.{Place}
+use Rattle.model.specs.Fresh.{emptyUnit, emptyAquifer}
 use Rattle.model.specs.View.{View, termLimit}
 use Rattle.river.specs.Flow.{flow}
 use Rattle.river.specs.Wells.{recharge}
@@ -79,6 +82,16 @@ coveredUnit v j =
 
 abbrev pub coveredAquifer : View → ℕ → Bool
 coveredAquifer v j = leb (titled v (v .given) WellExtraction j) (v .aquifer j .extraction)
+
+-- The unit or the aquifer at index j is sound, and its entries cover what titles add together to them: a list of sums for each entry.
+abbrev pub unitHolds : ℕ → List Unit → List ℕ → List ℕ → List ℕ → List ℕ → ℕ → Bool
+unitHolds count units extraction exports imports returns j =
+    soundUnit count j (getD units j emptyUnit)
+    && covers (getD extraction j 0) (getD exports j 0) (getD imports j 0) (getD returns j 0) (getD units j emptyUnit)
+
+abbrev pub aquiferHolds : List Aquifer → List ℕ → ℕ → Bool
+aquiferHolds aquifers extraction j =
+    soundAquifer (getD aquifers j emptyAquifer) && leb (getD extraction j 0) (getD aquifers j emptyAquifer .extraction)
 
 -- The counts are within their limits.
 abbrev pub soundCounts : View → Bool

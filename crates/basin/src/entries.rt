@@ -1,9 +1,7 @@
 // The entries of units and aquifers: ranges, downstream numbers, commitments and recharge.
 ghost use mathlib.Core.Path.{_≡_};
-ghost use Prim.Native.Nat.{_≤_};
 ghost use mathlib.Core.Bool.{true};
 ghost use lib.Signed.{nonNeg};
-ghost use Rattle.model.specs.View.{viewOf};
 ghost use Rattle.river.specs.Wells.{recharge};
 ghost use Rattle.basin.specs.Sound as sounds;
 use model::Aquifer;
@@ -71,7 +69,7 @@ fn entries_sound(u: Unit) -> bool
 }
 
 // Each entry of a unit is in its range, its downstream number is sound, and only an outlet has a commitment.
-fn unit_sound(u: Unit, j: usize, count: usize) -> bool
+pub fn unit_sound(u: Unit, j: usize, count: usize) -> bool
     ensures { λ r. ⌜ r ≡ sounds.soundUnit count j u ⌝ }
 {
     let storage = u.storage;
@@ -99,7 +97,7 @@ fn is_recharged(a: Aquifer) -> bool
 }
 
 // Each entry of an aquifer is in its range, and its recharge is not negative.
-fn aquifer_sound(a: Aquifer) -> bool
+pub fn aquifer_sound(a: Aquifer) -> bool
     ensures { λ r. ⌜ r ≡ sounds.soundAquifer a ⌝ }
 {
     let storage = a.storage;
@@ -119,38 +117,4 @@ fn aquifer_sound(a: Aquifer) -> bool
         return false;
     }
     is_recharged(a)
-}
-
-// Every unit is sound.
-pub fn units_sound(b: Balance) -> bool
-    requires { ⌜ viewOf b .units ≤ 64 ⌝ }
-    ensures { λ r. ⌜ r ≡ sounds.soundUnits (viewOf b) ⌝ }
-{
-    let n = b.unit_count;
-    let mut i = 0;
-    while i < n {
-        let u = b.units[i];
-        if !unit_sound(u, i, n) {
-            return false;
-        }
-        i += 1;
-    }
-    true
-}
-
-// Every aquifer is sound.
-pub fn aquifers_sound(b: Balance) -> bool
-    requires { ⌜ viewOf b .aquifers ≤ 32 ⌝ }
-    ensures { λ r. ⌜ r ≡ sounds.soundAquifers (viewOf b) ⌝ }
-{
-    let n = b.aquifer_count;
-    let mut i = 0;
-    while i < n {
-        let a = b.aquifers[i];
-        if !aquifer_sound(a) {
-            return false;
-        }
-        i += 1;
-    }
-    true
 }

@@ -1,4 +1,5 @@
 // The balance: the test for 0 and the figures.
+mod cover;
 mod entries;
 mod places;
 pub mod reply;

@@ -1,15 +1,14 @@
-// The places of the register: titles in force, and what they add together.
+// The places of the register: titles in force.
 ghost use mathlib.Core.Path.{_≡_};
 ghost use mathlib.Core.Bool.{_&&_};
 ghost use Prim.Native.Nat.{_≤_};
+ghost use lib.ListN.{getD};
 ghost use Rattle.laws.specs.Sum.{every};
-ghost use Rattle.model.specs.View.{viewOf};
+ghost use Rattle.model.specs.Fresh.{emptyPlace};
 ghost use Rattle.basin.specs.Sound as sounds;
 use model::Balance;
 use model::Place;
 use model::Title;
-use model::Unit;
-use titles::Slot;
 
 // A number from 1 to the last.
 pub fn exists(last: usize, number: u8) -> bool
@@ -87,79 +86,17 @@ fn place_sound(p: Place, units: usize, aquifers: usize) -> bool
 }
 
 // Every title in force is sound.
-pub fn titles_sound(b: Balance) -> bool
-    requires { ⌜ viewOf b .given ≤ 256 ⌝ }
-    ensures { λ r. ⌜ r ≡ sounds.soundTitles (viewOf b) ⌝ }
+pub fn titles_sound(titles: [Place; 256], given: usize, units: usize, aquifers: usize) -> bool
+    requires { ⌜ given ≤ 256 ⌝ }
+    ensures { λ r. ⌜ r ≡ every given (λ k. sounds.soundPlace units aquifers (getD titles k emptyPlace)) ⌝ }
 {
-    let units = b.unit_count;
-    let aquifers = b.aquifer_count;
-    let n = b.given;
     let mut k = 0;
-    while k < n {
-        let p = b.titles[k];
+    while k < given {
+        let p = titles[k];
         if !place_sound(p, units, aquifers) {
             return false;
         }
         k += 1;
-    }
-    true
-}
-
-// The titles of a unit do not together exceed the entries that they went into.
-fn unit_covered(u: Unit, extraction: u64, exports: u64, imports: u64, returns: u64) -> bool
-    ensures { λ r. ⌜ r ≡ sounds.covers extraction exports imports returns u ⌝ }
-{
-    if extraction > (u.extraction as u64) {
-        return false;
-    }
-    if exports > (u.exports as u64) {
-        return false;
-    }
-    if imports > (u.imports as u64) {
-        return false;
-    }
-    returns <= (u.returns as u64)
-}
-
-// No entry of a unit is exceeded by its titles.
-pub fn units_covered(b: Balance) -> bool
-    requires { ⌜ (viewOf b .units ≤ 64) × (viewOf b .given ≤ 256) ⌝ }
-    ensures { λ r. ⌜ r ≡ every (viewOf b .units) (sounds.coveredUnit (viewOf b)) ⌝ }
-{
-    let n = b.unit_count;
-    let given = b.given;
-    let titles = b.titles;
-    let extraction = titles::titled(titles, given, Slot::Extraction);
-    let exports = titles::titled(titles, given, Slot::Exports);
-    let imports = titles::titled(titles, given, Slot::Imports);
-    let returns = titles::titled(titles, given, Slot::Returns);
-    let mut i = 0;
-    while i < n {
-        let u = b.units[i];
-        if !unit_covered(u, extraction[i], exports[i], imports[i], returns[i]) {
-            return false;
-        }
-        i += 1;
-    }
-    true
-}
-
-// No aquifer's extraction is exceeded by its titles.
-pub fn aquifers_covered(b: Balance) -> bool
-    requires { ⌜ (viewOf b .aquifers ≤ 32) × (viewOf b .given ≤ 256) ⌝ }
-    ensures { λ r. ⌜ r ≡ every (viewOf b .aquifers) (sounds.coveredAquifer (viewOf b)) ⌝ }
-{
-    let n = b.aquifer_count;
-    let given = b.given;
-    let titles = b.titles;
-    let extraction = titles::titled(titles, given, Slot::WellExtraction);
-    let mut i = 0;
-    while i < n {
-        let a = b.aquifers[i];
-        if extraction[i] > (a.extraction as u64) {
-            return false;
-        }
-        i += 1;
     }
     true
 }

@@ -1,6 +1,6 @@
 -- What a place adds to an entry is its posting's amount at the posting's number. Assumes nothing.
 use Prim.Native.Nat.{ℕ, suc, _≤_, zero-le}
-use mathlib.Core.Path.{_≡_, refl, sym, ap, _∙_}
+use mathlib.Core.Path.{_≡_, refl}
 use mathlib.Core.Bool.{Bool, true, false}
 use lib.Dec.{eqb, eqb·zero-suc}
 use native.Mathlib.Nat.{le-refl, le-trans}
@@ -10,17 +10,9 @@ use Rattle.model.specs.declared.Title.the-variants.{UnitWithdrawal, AquiferWith
 use Rattle.model.specs.declared.Place.{Place}
 use Rattle.titles.specs.declared.Slot.{Slot}
 use Rattle.titles.specs.declared.Slot.the-variants.{Extraction, Exports, Imports, Returns, WellExtraction}
-use Rattle.titles.specs.declared.Posting.{Posting}
 use Rattle.titles.specs.Adds.{adds, placeAdds}
-use Rattle.titles.specs.Posting.{nothing, titlePosting, whenInForce, posting, volumeOf}
+use Rattle.titles.specs.Posting.{Posting, nothing, titlePosting, whenInForce, posting, volumeOf}
 use Rattle.titles.proofs.Percents.{returned-within}
-
--- A posting of the title, or to the entry, that a match found.
-pub by-title : (s : Slot) (q : Posting) {t u : Title} → t ≡ u → q ≡ titlePosting u s → q ≡ titlePosting t s
-by-title s q e p = p ∙ ap (λ (t : Title). titlePosting t s) (sym e)
-
-pub by-slot : (t : Title) (q : Posting) {s r : Slot} → s ≡ r → q ≡ titlePosting t r → q ≡ titlePosting t s
-by-slot t q e p = p ∙ ap (titlePosting t) (sym e)
 
 -- What a posting adds at index j.
 abbrev posts : Posting → ℕ → ℕ

@@ -1,6 +1,7 @@
 -- The steps of the loop over the register. Assumes nothing.
 use Prim.Native.Nat.{ℕ, suc, _+_, _-_, _≤_, _<_}
-use mathlib.Core.Path.{_≡_, refl, sym, ap, _∙_}
+use mathlib.Core.Path.{_≡_, refl, sym, ap, subst, _∙_}
+use mathlib.Core.Bool.{Bool, true, false}
 use mathlib.Core.List.{List}
 use lib.Dec.{eqb}
 use lib.ListN.{length, getD, set, replicate, length-set, getD-replicate}
@@ -11,23 +12,35 @@ use Rattle.laws.specs.Sum.{naturals, only}
 use Rattle.laws.proofs.Cases.{by-eq}
 use Rattle.model.specs.declared.Place.{Place}
 use Rattle.model.specs.Fresh.{emptyPlace}
+use Rattle.model.specs.declared.Title.{Title}
 use Rattle.titles.specs.declared.Slot.{Slot}
-use Rattle.titles.specs.declared.Posting.{Posting}
-use Rattle.titles.specs.Posting.{posting}
-use Rattle.titles.specs.Titled.{Titled, Roomy, Raised}
+use Rattle.titles.specs.declared.Slot.the-variants.{Extraction, Exports, Imports, Returns, WellExtraction}
+use Rattle.titles.specs.declared.Sums.{Sums}
+use Rattle.titles.specs.Posting.{Posting, nothing, titlePosting, whenInForce, posting}
+use Rattle.titles.specs.Titled.{Titled, Roomy, Raised, RoomyAll, RaisedBy, RaisedAll, TitledAll, sumsOf, five}
 use Rattle.titles.proofs.Posts.{place-posts, only-within}
 use Rattle.titles.proofs.Adding.{places-none, places-more}
 
 -- A number that is 0 or above 64 is no index's.
-pub raised-nowhere : (xs : List ℕ) (n a : ℕ) → length xs ≡ 64 → ((j : ℕ) → j < 64 → n ≡ suc j → ⊥) → Raised xs n a xs
-raised-nowhere xs n a l out =
-    record { places = l; sums = λ j h. rw (ne-eqb n (suc j) (out j h)) (omega arith) }
+pub raised-nowhere : (xs : List ℕ) (n a : ℕ) → length xs ≡ 64 → a ≤ 4294967295 → ((j : ℕ) → j < 64 → n ≡ suc j → ⊥) → Raised xs n a xs
+raised-nowhere xs n a l w out =
+    record { places = l; within = w; sums = λ j h. rw (ne-eqb n (suc j) (out j h)) (omega arith) }
+
+-- Sums to which nothing is posted stay as they are.
+pub raised-none : (xs : List ℕ) → Roomy xs → Raised xs 0 0 xs
+raised-none xs r = raised-nowhere xs 0 0 (r .places) (omega arith) (λ j h e. omega arith)
+
+-- The same amount by another name.
+pub raised-amount : {xs r : List ℕ} {n a b : ℕ} → a ≡ b → Raised xs n a r → Raised xs n b r
+raised-amount {xs = xs} {r = r} {n = n} e h = subst (λ (a : ℕ). Raised xs n a r) e h
 
 -- The amount goes to index n - 1.
-pub raised-at : (xs : List ℕ) (n a : ℕ) → length xs ≡ 64 → 1 ≤ n → n ≤ 64 → Raised xs n a (set xs (n - 1) (getD xs (n - 1) 0 + a))
-raised-at xs n a l lo hi =
+pub raised-at : (xs : List ℕ) (n a : ℕ) → length xs ≡ 64 → a ≤ 4294967295 → 1 ≤ n → n ≤ 64
+    → Raised xs n a (set xs (n - 1) (getD xs (n - 1) 0 + a))
+raised-at xs n a l w lo hi =
     record {
       places = length-set xs (n - 1) _ ∙ l;
+      within = w;
       sums =
           λ j h. by-eq j (n - 1)
           (λ q. rw (eq-eqb n (suc j) (omega arith))
@@ -40,38 +53,73 @@ raised-at xs n a l lo hi =
           (λ q. rw (ne-eqb n (suc j) (omega arith)) (omega (arith, getD-set-other xs (n - 1) j (getD xs (n - 1) 0 + a) 0 q)));
     }
 
--- Before the first place the sums are all 0.
-pub titled-none : (titles : List Place) (s : Slot) → Titled titles 0 s (replicate 64 0)
-titled-none titles s =
-    record {
-      places = refl;
-      sums = λ j h. getD-replicate {A = ℕ} 64 j 0 0 h ∙ sym (places-none s j (λ k. getD titles k emptyPlace));
-      within = λ j h. omega (arith, getD-replicate {A = ℕ} 64 j 0 0 h);
-    }
+-- What holds of each of the five entries holds of all of them.
+pub by-slot : (P : Slot → Type 0) → P Extraction → P Exports → P Imports → P Returns → P WellExtraction → (s : Slot) → P s
+by-slot P a b c d e Extraction = a
+by-slot P a b c d e Exports = b
+by-slot P a b c d e Imports = c
+by-slot P a b c d e Returns = d
+by-slot P a b c d e WellExtraction = e
 
--- What stands for up to 256 places leaves room.
-pub titled-roomy : (titles : List Place) (n : ℕ) (s : Slot) (xs : List ℕ) → n ≤ 256 → Titled titles n s xs → Roomy xs
-titled-roomy titles n s xs h t = record { places = t .places; room = λ j l. omega (arith, t .within j l) }
+-- The title that a match found raises what it posts to each entry.
+pub raised-title : (xs r : Sums) {t : Title} (u : Title) → t ≡ u
+    → RaisedBy u Extraction (xs .extraction) (r .extraction) → RaisedBy u Exports (xs .exports) (r .exports)
+    → RaisedBy u Imports (xs .imports) (r .imports) → RaisedBy u Returns (xs .returns) (r .returns)
+    → RaisedBy u WellExtraction (xs .wells) (r .wells) → RaisedAll t xs r
+raised-title xs r u e a b c d w = rw e (by-slot (λ s. RaisedBy u s (sumsOf xs s) (sumsOf r s)) a b c d w)
 
--- One more place's posting is added.
-pub titled-more : (titles : List Place) (n : ℕ) (s : Slot) (xs r : List ℕ) (q : Posting) → Titled titles n s xs
-    → q ≡ posting (getD titles n emptyPlace) s → q .amount ≤ 4294967295 → Raised xs (q .number) (q .amount) r → Titled titles (n + 1) s r
-titled-more titles n s xs r q t e w raised =
-    let place = getD titles n emptyPlace in
-    record {
-      places = raised .places;
-      sums =
-          λ j h. omega (
-            arith,
-            raised .sums j h,
-            t .sums j h,
-            places-more s j n (λ k. getD titles k emptyPlace),
-            place-posts place s j,
-            ap (λ (z : Posting). only naturals (eqb (z .number) (suc j)) (z .amount)) e,
-          );
-      within = λ j h. omega (arith, raised .sums j h, t .within j h, only-within (eqb (q .number) (suc j)) (q .amount));
-    }
+module _ (titles : List Place) where
+  -- Before the first place the sums are all 0.
+  titled-none : (s : Slot) → Titled titles 0 s (replicate 64 0)
+  titled-none s =
+      record {
+        places = refl;
+        sums = λ j h. getD-replicate {A = ℕ} 64 j 0 0 h ∙ sym (places-none s j (λ k. getD titles k emptyPlace));
+        within = λ j h. omega (arith, getD-replicate {A = ℕ} 64 j 0 0 h);
+      }
 
--- After the last place.
-pub titled-all : (titles : List Place) (n k : ℕ) (s : Slot) (xs : List ℕ) → n ≤ k → k ≤ n → Titled titles k s xs → Titled titles n s xs
-titled-all titles n k s xs h g t = let e : n ≡ k = omega arith in rw e t
+  pub all-none : TitledAll titles 0 (five (replicate 64 0) (replicate 64 0) (replicate 64 0) (replicate 64 0) (replicate 64 0))
+  all-none =
+      by-slot _ (titled-none Extraction) (titled-none Exports) (titled-none Imports) (titled-none Returns) (titled-none WellExtraction)
+
+  module _ (n : ℕ) where
+    -- What stands for up to 256 places leaves room.
+    pub all-roomy : (xs : Sums) → n ≤ 256 → TitledAll titles n xs → RoomyAll xs
+    all-roomy xs h t s = record { places = t s .places; room = λ j l. omega (arith, t s .within j l) }
+
+    -- One more place's posting is added.
+    titled-more : (s : Slot) (xs r : List ℕ) (q : Posting) → Titled titles n s xs
+        → q ≡ posting (getD titles n emptyPlace) s → Raised xs (q .number) (q .amount) r → Titled titles (n + 1) s r
+    titled-more s xs r q t e raised =
+        let place = getD titles n emptyPlace in
+        record {
+          places = raised .places;
+          sums =
+              λ j h. omega (
+                arith,
+                raised .sums j h,
+                t .sums j h,
+                places-more s j n (λ k. getD titles k emptyPlace),
+                place-posts place s j,
+                ap (λ (z : Posting). only naturals (eqb (z .number) (suc j)) (z .amount)) e,
+              );
+          within = λ j h. omega (arith, raised .within, raised .sums j h, t .within j h, only-within (eqb (q .number) (suc j)) (q .amount));
+        }
+
+    -- A place whose title is in force adds what that posts, and any other nothing.
+    pub all-more : (xs r : Sums) (p : Place) → p ≡ getD titles n emptyPlace → p .«in_force» ≡ true → TitledAll titles n xs
+        → RaisedAll (p .title) xs r → TitledAll titles (n + 1) r
+    all-more xs r p e f t raised s =
+        titled-more s _ _ (titlePosting (p .title) s) (t s)
+        (ap (λ (b : Bool). whenInForce b (titlePosting (p .title) s)) (sym f) ∙ ap (λ (z : Place). posting z s) e) (raised s)
+
+    pub all-kept : (xs : Sums) (p : Place) → p ≡ getD titles n emptyPlace → p .«in_force» ≡ false → n ≤ 256 → TitledAll titles n xs
+        → TitledAll titles (n + 1) xs
+    all-kept xs p e f h t s =
+        titled-more s _ _ nothing (t s)
+        (ap (λ (b : Bool). whenInForce b (titlePosting (p .title) s)) (sym f) ∙ ap (λ (z : Place). posting z s) e)
+        (raised-none _ (all-roomy xs h t s))
+
+    -- After the last place.
+    pub all-done : (m : ℕ) (xs : Sums) → m ≤ n → n ≤ m → TitledAll titles n xs → TitledAll titles m xs
+    all-done m xs h g t = let e : m ≡ n = omega arith in rw e t

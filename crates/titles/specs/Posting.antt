@@ -6,8 +6,12 @@ use Rattle.model.specs.declared.Title.the-variants.{UnitWithdrawal, AquiferWith
 use Rattle.model.specs.declared.Place.{Place}
 use Rattle.titles.specs.declared.Slot.{Slot}
 use Rattle.titles.specs.declared.Slot.the-variants.{Extraction, Exports, Imports, Returns, WellExtraction}
-use Rattle.titles.specs.declared.Posting.{Posting}
 use Rattle.titles.specs.Adds.{returned}
+
+-- An amount for the unit or aquifer of a number.
+pub record Posting : Type 0 where
+  pub number : ℕ
+  pub amount : ℕ
 
 -- The number 0 is no unit's and no aquifer's: nothing is posted.
 abbrev pub nothing : Posting

@@ -8,7 +8,11 @@ use Rattle.laws.specs.Sum.{naturals, sumOf, only}
 use Rattle.model.specs.declared.Place.{Place}
 use Rattle.model.specs.Fresh.{emptyPlace}
 use Rattle.titles.specs.declared.Slot.{Slot}
+use Rattle.titles.specs.declared.Slot.the-variants.{Extraction, Exports, Imports, Returns, WellExtraction}
+use Rattle.titles.specs.declared.Sums.{Sums}
+use Rattle.model.specs.declared.Title.{Title}
 use Rattle.titles.specs.Adds.{placeAdds}
+use Rattle.titles.specs.Posting.{titlePosting}
 
 -- Sixty-four sums, one for each index: what the first n places of a list add together to an entry of the unit or aquifer there.
 pub record Titled (titles : List Place) (n : ℕ) (s : Slot) (r : List ℕ) : Type 0 where
@@ -21,7 +25,35 @@ pub record Roomy (xs : List ℕ) : Type 0 where
   pub places : length xs ≡ 64
   pub room : (j : ℕ) → j < 64 → getD xs j 0 ≤ 256 * 4294967295
 
--- The amount of one posting is added at its number, and nowhere else.
+-- The amount of one posting, a number of 32 bits, is added at its number, and nowhere else.
 pub record Raised (xs : List ℕ) (number amount : ℕ) (r : List ℕ) : Type 0 where
   pub places : length r ≡ 64
+  pub within : amount ≤ 4294967295
   pub sums : (j : ℕ) → j < 64 → getD r j 0 ≡ getD xs j 0 + only naturals (eqb number (suc j)) amount
+
+-- The sums of one entry, among those of all five.
+abbrev pub sumsOf : Sums → Slot → List ℕ
+sumsOf r Extraction = r .extraction
+sumsOf r Exports = r .exports
+sumsOf r Imports = r .imports
+sumsOf r Returns = r .returns
+sumsOf r WellExtraction = r .wells
+
+abbrev pub five : List ℕ → List ℕ → List ℕ → List ℕ → List ℕ → Sums
+five extraction exports imports returns wells =
+    record { extraction = extraction; exports = exports; imports = imports; returns = returns; wells = wells }
+
+-- Each of the five has room for one more posting.
+abbrev pub RoomyAll : Sums → Type 0
+RoomyAll r = (s : Slot) → Roomy (sumsOf r s)
+
+-- What a title posts to an entry is added, and that at each of the five.
+abbrev pub RaisedBy : Title → Slot → List ℕ → List ℕ → Type 0
+RaisedBy t s xs r = Raised xs (titlePosting t s .number) (titlePosting t s .amount) r
+
+abbrev pub RaisedAll : Title → Sums → Sums → Type 0
+RaisedAll t xs r = (s : Slot) → RaisedBy t s (sumsOf xs s) (sumsOf r s)
+
+-- Each of the five is what the first n places add together to its entry.
+abbrev pub TitledAll : List Place → ℕ → Sums → Type 0
+TitledAll titles n r = (s : Slot) → Titled titles n s (sumsOf r s)

@@ -7,10 +7,10 @@ use Rattle.titles.proofs.raise.Statement.{statement}
 use Rattle.titles.proofs.raise.Tie as tie
 
 returns : tie.Need-returns
-returns c = raised-nowhere _ _ _ (c .before .pre .places) (λ j h e. omega arith)
+returns c = raised-nowhere _ _ _ (c .before .pre .places) (omega arith) (λ j h e. omega arith)
 
 returns-2 : tie.Need-returns-2
-returns-2 c = raised-nowhere _ _ _ (c .before .before .pre .places) (λ j h e. omega arith)
+returns-2 c = raised-nowhere _ _ _ (c .before .before .pre .places) (omega arith) (λ j h e. omega arith)
 
 cast-place : tie.Need-cast-place
 cast-place c = search needs
@@ -35,7 +35,7 @@ element-write-sums c = search needs
 returns-3 : tie.Need-returns-3
 returns-3 c =
     let a = c .before .before .before in
-    raised-at _ (a .args .number) (a .args .amount) (a .pre .places) (omega arith) (omega arith)
+    raised-at _ (a .args .number) (a .args .amount) (a .pre .places) (omega arith) (omega arith) (omega arith)
 
 pub raise-spec : {M : Type 1} → statement M
 raise-spec =

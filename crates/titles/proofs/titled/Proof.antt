@@ -1,21 +1,23 @@
 -- `titles::titled` meets its contract. Assumes nothing.
 use Prim.Native.Nat.{_≤_, _-_}
+use mathlib.Core.Path.{refl}
 use native.Mathlib.Omega.{arith}
-use borrow.Author.Needs.{needs}
-use Rattle.titles.proofs.Raising.{titled-none, titled-roomy, titled-more, titled-all}
-use Rattle.titles.specs.Titled.{Titled}
+use Rattle.titles.specs.Titled.{TitledAll, five}
+use Rattle.titles.proofs.Raising.{all-none, all-roomy, all-more, all-kept, all-done}
 use Rattle.titles.proofs.titled.Statement.{statement}
 use Rattle.titles.proofs.titled.Tie as tie
 
 -- The first k places are added up.
 abbrev Inv-loop : tie.InvT-loop
-Inv-loop given slot titles sums₀ k₀ sums k = (k ≤ given) × Titled titles k slot sums
+Inv-loop given titles extraction₀ exports₀ imports₀ returns₀ wells₀ k₀ extraction exports imports returns wells k =
+    (k ≤ given) × TitledAll titles k (five extraction exports imports returns wells)
 
 abbrev μ-loop : tie.MeasureT-loop
-μ-loop given slot titles sums₀ k₀ sums k = given - k
+μ-loop given titles extraction₀ exports₀ imports₀ returns₀ wells₀ k₀ extraction exports imports returns wells k =
+    given - k
 
 loop-holds : tie.Need-loop-holds Inv-loop μ-loop
-loop-holds c = (omega arith, titled-none (c .args .t1) (c .args .slot))
+loop-holds c = (omega arith, all-none (c .args .t1))
 
 mul-p : tie.Need-mul-p Inv-loop μ-loop
 mul-p c = omega arith
@@ -23,26 +25,32 @@ mul-p c = omega arith
 array-copy-out-p : tie.Need-array-copy-out-p Inv-loop μ-loop
 array-copy-out-p c = omega arith
 
-posted-requires : tie.Need-posted-requires Inv-loop μ-loop
-posted-requires c κs = search needs
-
-raise-requires : tie.Need-raise-requires Inv-loop μ-loop
-raise-requires c κs = titled-roomy _ _ _ _ (omega arith) (c .before .before .before .before .loop .inv .1)
-
 add-k : tie.Need-add-k Inv-loop μ-loop
 add-k c = omega arith
+
+add-requires : tie.Need-add-requires Inv-loop μ-loop
+add-requires c κs =
+    let a = c .before .before .before .before .before .before .before .before .loop in
+    all-roomy _ (a .k) _ (omega arith) (a .inv .1)
 
 loop-less : tie.Need-loop-less Inv-loop μ-loop
 loop-less c = omega arith
 
 loop-again : tie.Need-loop-again Inv-loop μ-loop
 loop-again c =
-    let a = c .before .before .before .before .before .loop in
-    let p = c .before .before .posted in
-    (omega arith, titled-more _ (a .k) _ _ _ (p .result) (a .inv .1) (p .ensures) (omega arith) (c .raise .ensures))
+    let a = c .before .before .before .before .before .before .before .before .before .loop in
+    (omega arith, all-more _ (a .k) _ _ _ refl (c .before .before .before .before .before .before .if1 .taken) (a .inv .1) (c .add .ensures))
+
+loop-less-2 : tie.Need-loop-less-2 Inv-loop μ-loop
+loop-less-2 c = omega arith
+
+loop-again-2 : tie.Need-loop-again-2 Inv-loop μ-loop
+loop-again-2 c =
+    let a = c .before .before .before .loop in
+    (omega arith, all-kept _ (a .k) _ _ refl (c .if1 .left) (omega arith) (a .inv .1))
 
 returns : tie.Need-returns Inv-loop μ-loop
-returns c = titled-all _ _ _ _ _ (c .loop-test .left) (c .before .loop .inv .0) (c .before .loop .inv .1)
+returns c = all-done _ (c .before .loop .k) _ _ (c .loop-test .left) (c .before .loop .inv .0) (c .before .loop .inv .1)
 
 pub titled-spec : {M : Type 1} → statement M
 titled-spec =
@@ -53,9 +61,10 @@ titled-spec =
     loop-holds
     mul-p
     array-copy-out-p
-    posted-requires
-    raise-requires
     add-k
+    add-requires
     loop-less
     loop-again
+    loop-less-2
+    loop-again-2
     returns)

@@ -6,18 +6,19 @@ use native.Mathlib.Omega.{arith}
 use borrow.Author.Count.{below-none, below-more}
 use borrow.Author.Needs.{needs}
 use borrow.Author.Tests.{not-true, not-false}
-use Rattle.model.specs.View.{viewOf}
+use lib.ListN.{getD}
+use Rattle.model.specs.Fresh.{emptyPlace}
 use Rattle.laws.proofs.Every.{each-every, every-fails}
 use Rattle.basin.specs.Sound.{soundPlace}
 use Rattle.basin.proofs.places.titles_sound.Statement.{statement}
 use Rattle.basin.proofs.places.titles_sound.Tie as tie
 
 abbrev Inv-loop : tie.InvT-loop
-Inv-loop b units aquifers n k₀ k =
-    (k ≤ n) × ((j : ℕ) → j < k → soundPlace units aquifers (viewOf b .place j) ≡ true)
+Inv-loop given units aquifers titles k₀ k =
+    (k ≤ given) × ((j : ℕ) → j < k → soundPlace units aquifers (getD titles j emptyPlace) ≡ true)
 
 abbrev μ-loop : tie.MeasureT-loop
-μ-loop b units aquifers n k₀ k = n - k
+μ-loop given units aquifers titles k₀ k = given - k
 
 loop-holds : tie.Need-loop-holds Inv-loop μ-loop
 loop-holds c = (omega arith, below-none _)
@@ -25,8 +26,8 @@ loop-holds c = (omega arith, below-none _)
 mul-p : tie.Need-mul-p Inv-loop μ-loop
 mul-p c = omega arith
 
-element-copy-out-p : tie.Need-element-copy-out-p Inv-loop μ-loop
-element-copy-out-p c = omega arith
+array-copy-out-p : tie.Need-array-copy-out-p Inv-loop μ-loop
+array-copy-out-p c = omega arith
 
 place-sound-requires : tie.Need-place-sound-requires Inv-loop μ-loop
 place-sound-requires c κs = search needs
@@ -54,7 +55,7 @@ titles-sound-spec =
     μ-loop
     loop-holds
     mul-p
-    element-copy-out-p
+    array-copy-out-p
     place-sound-requires
     returns
     add-k

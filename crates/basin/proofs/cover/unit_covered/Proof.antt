@@ -1,8 +1,8 @@
 -- `basin::unit_covered` meets its contract. Assumes nothing.
 use borrow.Author.Needs.{needs}
 use Rattle.basin.proofs.Chains.{chain}
-use Rattle.basin.proofs.places.unit_covered.Statement.{statement}
-use Rattle.basin.proofs.places.unit_covered.Tie as tie
+use Rattle.basin.proofs.cover.unit_covered.Statement.{statement}
+use Rattle.basin.proofs.cover.unit_covered.Tie as tie
 
 cast-if1 : tie.Need-cast-if1
 cast-if1 c = search needs
