@@ -3,9 +3,8 @@
 ghost use Prim.Native.Nat.{_+_, _≤_};
 ghost use mathlib.Core.List.{[]};
 ghost use lib.ListN.{length};
-ghost use Rattle.report.specs.Text.{unitLine, aquiferLine, refusedLine, callLine, callGiven, callRefused, callCancelled, Written};
-
-mod piece;
+ghost use Rattle.text.specs.Text.{Written};
+ghost use Rattle.report.specs.Lines.{unitLine, aquiferLine, refusedLine, callLine, callGiven, callRefused, callCancelled};
 
 // The size of the buffer: room for 16,384 call lines, as many as a book of 65,536 bytes can have calls, and for the table.
 pub const ROOM: usize = 1064960;
@@ -16,7 +15,7 @@ pub fn no_line(out: &mut [u8; ROOM], at: usize) -> usize
     ensures { λ r. ⌜ Written 0 (now (out .entry)) at [] (now (out .exit)) r ⌝ }
 {
     let line: &mut [u8] = out;
-    piece::word(line, at, b"")
+    text::word(line, at, b"")
 }
 
 // `unit N F C R A`: the unit's number, flow, committed volume, own reserve and availability.
@@ -33,13 +32,13 @@ pub fn unit_line(
     ensures { λ r. ⌜ Written 128 (now (out .entry)) at (unitLine number flow committed reserve availability) (now (out .exit)) r ⌝ }
 {
     let line: &mut [u8] = out;
-    let a = piece::word(line, at, b"unit");
-    let b = piece::number(line, a, number);
-    let c = piece::signed(line, b, flow);
-    let d = piece::number(line, c, committed);
-    let e = piece::number(line, d, reserve);
-    let f = piece::signed(line, e, availability);
-    piece::byte(line, f, b'\n')
+    let a = text::word(line, at, b"unit");
+    let b = text::number(line, a, number);
+    let c = text::signed(line, b, flow);
+    let d = text::number(line, c, committed);
+    let e = text::number(line, d, reserve);
+    let f = text::signed(line, e, availability);
+    text::byte(line, f, b'\n')
 }
 
 // `aquifer N R A`: the aquifer's number, recharge and availability.
@@ -54,11 +53,11 @@ pub fn aquifer_line(
     ensures { λ r. ⌜ Written 128 (now (out .entry)) at (aquiferLine number recharge availability) (now (out .exit)) r ⌝ }
 {
     let line: &mut [u8] = out;
-    let a = piece::word(line, at, b"aquifer");
-    let b = piece::number(line, a, number);
-    let c = piece::signed(line, b, recharge);
-    let d = piece::signed(line, c, availability);
-    piece::byte(line, d, b'\n')
+    let a = text::word(line, at, b"aquifer");
+    let b = text::number(line, a, number);
+    let c = text::signed(line, b, recharge);
+    let d = text::signed(line, c, availability);
+    text::byte(line, d, b'\n')
 }
 
 // `refused N at P`: the refusal's number and its place.
@@ -67,11 +66,11 @@ pub fn refused_line(out: &mut [u8; ROOM], at: usize, number: u64, place: u64) ->
     ensures { λ r. ⌜ Written 128 (now (out .entry)) at (refusedLine number place) (now (out .exit)) r ⌝ }
 {
     let line: &mut [u8] = out;
-    let a = piece::word(line, at, b"refused");
-    let b = piece::number(line, a, number);
-    let c = piece::word(line, b, b" at");
-    let d = piece::number(line, c, place);
-    piece::byte(line, d, b'\n')
+    let a = text::word(line, at, b"refused");
+    let b = text::number(line, a, number);
+    let c = text::word(line, b, b" at");
+    let d = text::number(line, c, place);
+    text::byte(line, d, b'\n')
 }
 
 // `call K given N`: the call's place among the calls and the number of the title.
@@ -107,10 +106,10 @@ fn call_line(line: &mut [u8], at: usize, k: u64, outcome: &[u8], n: u64) -> usiz
     requires { ⌜ at + 64 ≤ length (now line) ⌝ }
     ensures { λ r. ⌜ Written 64 (now (line .entry)) at (callLine k (now (outcome .entry)) n) (now (line .exit)) r ⌝ }
 {
-    let a = piece::word(line, at, b"call");
-    let b = piece::number(line, a, k);
-    let c = piece::byte(line, b, b' ');
-    let d = piece::word(line, c, outcome);
-    let e = piece::number(line, d, n);
-    piece::byte(line, e, b'\n')
+    let a = text::word(line, at, b"call");
+    let b = text::number(line, a, k);
+    let c = text::byte(line, b, b' ');
+    let d = text::word(line, c, outcome);
+    let e = text::number(line, d, n);
+    text::byte(line, e, b'\n')
 }

@@ -4,7 +4,7 @@ use native.Mathlib.Omega.{arith}
 use borrow.Author.Needs.{needs}
 use borrow.Author.Count.{falls-down}
 use Rattle.calls.proofs.Running.{turn-ends, turn-fails, turn-none}
-use Rattle.report.proofs.Writing.{then, widen}
+use Rattle.text.proofs.Writing.{then, widen}
 use Rattle.listing.proofs.Calling.{Printing, printing-start, lines-end, lines-fail, lines-none, printing-replies}
 use Rattle.listing.proofs.call_lines.Statement.{statement}
 use Rattle.listing.proofs.call_lines.Tie as tie

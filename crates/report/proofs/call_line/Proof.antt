@@ -1,7 +1,7 @@
 -- `report::call_line` meets its contract: the pieces, one after another, are the line. Assumes nothing.
 use borrow.Author.Needs.{needs}
 use native.Mathlib.Omega.{arith}
-use Rattle.report.proofs.Writing.{then, widen}
+use Rattle.text.proofs.Writing.{then, widen}
 use Rattle.report.proofs.call_line.Statement.{statement}
 use Rattle.report.proofs.call_line.Tie as tie
 

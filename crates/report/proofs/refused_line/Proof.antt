@@ -1,8 +1,8 @@
 -- `report::refused_line` meets its contract: the pieces, one after another, are the line. Assumes nothing.
 use borrow.Author.Needs.{needs}
 use native.Mathlib.Omega.{arith}
-use Rattle.report.specs.Text.{refusedLine}
-use Rattle.report.proofs.Writing.{then, widen}
+use Rattle.report.specs.Lines.{refusedLine}
+use Rattle.text.proofs.Writing.{then, widen}
 use Rattle.report.proofs.refused_line.Statement.{statement}
 use Rattle.report.proofs.refused_line.Tie as tie
 

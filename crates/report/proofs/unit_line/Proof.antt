@@ -1,9 +1,9 @@
 -- `report::unit_line` meets its contract: the pieces, one after another, are the line. Assumes nothing.
 use borrow.Author.Needs.{needs}
 use native.Mathlib.Omega.{arith}
-use Rattle.report.specs.Text.{unitLine}
-use Rattle.report.proofs.Sign.{spaced}
-use Rattle.report.proofs.Writing.{restate, then, widen}
+use Rattle.report.specs.Lines.{unitLine}
+use Rattle.text.proofs.Sign.{spaced}
+use Rattle.text.proofs.Writing.{restate, then, widen}
 use Rattle.report.proofs.unit_line.Statement.{statement}
 use Rattle.report.proofs.unit_line.Tie as tie
 
