@@ -30,7 +30,7 @@ use Rattle.book.specs.declared.Opened.{Opened}
 use Rattle.book.specs.Reading.{opened}
 use Rattle.book.specs.Calls.{callsOf}
 use Rattle.register.specs.Calls.{after}
-use Rattle.report.specs.Text.{ascii}
+use Rattle.text.specs.Text.{ascii}
 use Rattle.listing.specs.Listing.{printed}
 use Rattle.cases.specs.Printed.{printedDescription, printedBook}
 use Rattle.cases.specs.Balances.{firstTitle, printedBalance, firstBalance, printed-opens, printed-sound, first-sound, calls-are}

@@ -19,7 +19,8 @@ use Rattle.register.specs.declared.Reply.{Reply}
 use Rattle.register.specs.Reply.{grantReply}
 use Rattle.register.specs.Calls.{after}
 use Rattle.calls.specs.Running.{ranAs}
-use Rattle.report.specs.Text.{ascii, decimalBelow, decimal, signed, unitLine, aquiferLine, callGiven, callRefused}
+use Rattle.text.specs.Text.{ascii, decimalBelow, decimal, signed}
+use Rattle.report.specs.Lines.{unitLine, aquiferLine, callGiven, callRefused}
 use Rattle.listing.specs.Listing.{linesOf, tableText, callText, callLines, ranText, runText, printed}
 use Rattle.listing.proofs.Tables.{table-is, printed-accepted}
 use Rattle.cases.specs.Printed.{printedDescription, printedCalls, printedBook}

@@ -1,7 +1,7 @@
 // What a dashboard links: the book as bytes in, the printed text or the table of figures out. The names are those of include/hasheqro.h.
 ghost use mathlib.Core.Path.{_≡_};
 ghost use Prim.Native.Nat.{_*_};
-ghost use Rattle.report.specs.Text.{Written};
+ghost use Rattle.text.specs.Text.{Written};
 ghost use Rattle.listing.specs.Listing.{printed};
 ghost use Rattle.book.specs.Reading.{opened};
 ghost use Rattle.dashboard.specs.Table as tables;

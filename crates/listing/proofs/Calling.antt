@@ -15,8 +15,8 @@ use Rattle.calls.specs.declared.Ran.{Ran}
 use Rattle.calls.specs.Running.{ranAs, ran}
 use Rattle.calls.proofs.Running.{rest, turn-ends, turn-fails, turn-asks, turn-none}
 use Rattle.calls.proofs.Onward.{asks-onward}
-use Rattle.report.specs.Text.{Written}
-use Rattle.report.proofs.Writing.{then, widen, restate, still}
+use Rattle.text.specs.Text.{Written}
+use Rattle.text.proofs.Writing.{then, widen, restate, still}
 use Rattle.listing.specs.Listing.{callText, callLines}
 
 -- The lines of the calls that are left after k calls.

@@ -18,7 +18,7 @@ use Rattle.basin.specs.Sound.{sound}
 use Rattle.basin.specs.Figures.{figuresReply}
 use Rattle.basin.proofs.Soundness.{soundness}
 use Rattle.book.specs.Reading.{opened}
-use Rattle.report.specs.Text.{refusedLine}
+use Rattle.report.specs.Lines.{refusedLine}
 use Rattle.listing.specs.Listing.{linesOf, unitText, aquiferText, tableText, runText, answerText, printed}
 
 -- A reply is accepted exactly when the balance is sound.

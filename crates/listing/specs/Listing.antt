@@ -19,7 +19,7 @@ use Rattle.book.specs.Calls.{callsOf}
 use Rattle.register.specs.Calls.{callReply}
 use Rattle.calls.specs.declared.Ran.{Ran}
 use Rattle.calls.specs.Running.{ran}
-use Rattle.report.specs.Text.{unitLine, aquiferLine, refusedLine, callGiven, callRefused, callCancelled}
+use Rattle.report.specs.Lines.{unitLine, aquiferLine, refusedLine, callGiven, callRefused, callCancelled}
 
 -- The lines of n places, one after the other.
 unfoldable pub linesOf : ℕ → (ℕ → List ℕ) → List ℕ

@@ -5,7 +5,7 @@ use mathlib.Core.List.{List}
 use Rattle.model.specs.declared.Balance.{Balance}
 use Rattle.book.specs.Calls.{callsOf}
 use Rattle.calls.specs.Running.{ran}
-use Rattle.report.specs.Text.{Written}
+use Rattle.text.specs.Text.{Written}
 use Rattle.listing.specs.Listing.{callLines}
 use Rattle.listing.specs.declared.Lines.{Lines}
 

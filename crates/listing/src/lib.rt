@@ -5,7 +5,7 @@ ghost use Prim.Native.Nat.{_+_, _≤_};
 ghost use lib.ListN.{length, getD};
 ghost use Rattle.model.specs.View.{viewOf};
 ghost use Rattle.river.specs.Figures.{noUnitFigures, noAquiferFigures};
-ghost use Rattle.report.specs.Text.{Written};
+ghost use Rattle.text.specs.Text.{Written};
 ghost use Rattle.listing.specs.Listing as text;
 ghost use Rattle.listing.specs.Printing as printing;
 use basin::reply::figures;

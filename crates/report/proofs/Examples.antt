@@ -1,7 +1,8 @@
 -- Lines worked out: the printed book's, and the largest and the least numbers. Assumes nothing.
 use mathlib.Core.Path.{_≡_, refl}
 use lib.IntN.{pos, negsuc}
-use Rattle.report.specs.Text.{ascii, decimalBelow, decimal, signed, unitLine, aquiferLine, refusedLine, callGiven, callRefused, callCancelled}
+use Rattle.text.specs.Text.{ascii, decimalBelow, decimal, signed}
+use Rattle.report.specs.Lines.{unitLine, aquiferLine, refusedLine, callGiven, callRefused, callCancelled}
 
 unit-3 : unitLine 3 (pos 8760) 1000 934 (pos 7760) ≡ ascii "unit 3 8760 1000 934 7760\n"
 unfolding unitLine signed decimal decimalBelow

@@ -1,4 +1,1 @@
-pub mod Decimal
 mod Examples
-pub mod Sign
-pub mod Writing

@@ -3,9 +3,8 @@
 ghost use Prim.Native.Nat.{_+_, _≤_};
 ghost use mathlib.Core.List.{[]};
 ghost use lib.ListN.{length};
-ghost use Rattle.report.specs.Text.{unitLine, aquiferLine, refusedLine, callLine, callGiven, callRefused, callCancelled, Written};
-
-mod piece;
+ghost use Rattle.text.specs.Text.{Written};
+ghost use Rattle.report.specs.Lines.{unitLine, aquiferLine, refusedLine, callLine, callGiven, callRefused, callCancelled};
 
 // The size of the buffer: room for 16,384 call lines, as many as a book of 65,536 bytes can have calls, and for the table.
 pub const ROOM: usize = 1064960;
@@ -15,8 +14,7 @@ pub fn no_line(out: &mut [u8; ROOM], at: usize) -> usize
     requires { ⌜ at ≤ 1064960 ⌝ }
     ensures { λ r. ⌜ Written 0 (now (out .entry)) at [] (now (out .exit)) r ⌝ }
 {
-    let line: &mut [u8] = out;
-    piece::word(line, at, b"")
+    text::word(out, at, b"")
 }
 
 // `unit N F C R A`: the unit's number, flow, committed volume, own reserve and availability.
@@ -32,14 +30,13 @@ pub fn unit_line(
     requires { ⌜ at + 128 ≤ 1064960 ⌝ }
     ensures { λ r. ⌜ Written 128 (now (out .entry)) at (unitLine number flow committed reserve availability) (now (out .exit)) r ⌝ }
 {
-    let line: &mut [u8] = out;
-    let a = piece::word(line, at, b"unit");
-    let b = piece::number(line, a, number);
-    let c = piece::signed(line, b, flow);
-    let d = piece::number(line, c, committed);
-    let e = piece::number(line, d, reserve);
-    let f = piece::signed(line, e, availability);
-    piece::byte(line, f, b'\n')
+    let a = text::word(out, at, b"unit");
+    let b = text::number(out, a, number);
+    let c = text::signed(out, b, flow);
+    let d = text::number(out, c, committed);
+    let e = text::number(out, d, reserve);
+    let f = text::signed(out, e, availability);
+    text::byte(out, f, b'\n')
 }
 
 // `aquifer N R A`: the aquifer's number, recharge and availability.
@@ -53,12 +50,11 @@ pub fn aquifer_line(
     requires { ⌜ at + 128 ≤ 1064960 ⌝ }
     ensures { λ r. ⌜ Written 128 (now (out .entry)) at (aquiferLine number recharge availability) (now (out .exit)) r ⌝ }
 {
-    let line: &mut [u8] = out;
-    let a = piece::word(line, at, b"aquifer");
-    let b = piece::number(line, a, number);
-    let c = piece::signed(line, b, recharge);
-    let d = piece::signed(line, c, availability);
-    piece::byte(line, d, b'\n')
+    let a = text::word(out, at, b"aquifer");
+    let b = text::number(out, a, number);
+    let c = text::signed(out, b, recharge);
+    let d = text::signed(out, c, availability);
+    text::byte(out, d, b'\n')
 }
 
 // `refused N at P`: the refusal's number and its place.
@@ -66,12 +62,11 @@ pub fn refused_line(out: &mut [u8; ROOM], at: usize, number: u64, place: u64) ->
     requires { ⌜ at + 128 ≤ 1064960 ⌝ }
     ensures { λ r. ⌜ Written 128 (now (out .entry)) at (refusedLine number place) (now (out .exit)) r ⌝ }
 {
-    let line: &mut [u8] = out;
-    let a = piece::word(line, at, b"refused");
-    let b = piece::number(line, a, number);
-    let c = piece::word(line, b, b" at");
-    let d = piece::number(line, c, place);
-    piece::byte(line, d, b'\n')
+    let a = text::word(out, at, b"refused");
+    let b = text::number(out, a, number);
+    let c = text::word(out, b, b" at");
+    let d = text::number(out, c, place);
+    text::byte(out, d, b'\n')
 }
 
 // `call K given N`: the call's place among the calls and the number of the title.
@@ -79,8 +74,7 @@ pub fn call_given(out: &mut [u8; ROOM], at: usize, k: u64, n: u64) -> usize
     requires { ⌜ at + 64 ≤ 1064960 ⌝ }
     ensures { λ r. ⌜ Written 64 (now (out .entry)) at (callGiven k n) (now (out .exit)) r ⌝ }
 {
-    let line: &mut [u8] = out;
-    call_line(line, at, k, b"given", n)
+    call_line(out, at, k, b"given", n)
 }
 
 // `call K refused N`: the call's place among the calls and the refusal's number.
@@ -88,8 +82,7 @@ pub fn call_refused(out: &mut [u8; ROOM], at: usize, k: u64, n: u64) -> usize
     requires { ⌜ at + 64 ≤ 1064960 ⌝ }
     ensures { λ r. ⌜ Written 64 (now (out .entry)) at (callRefused k n) (now (out .exit)) r ⌝ }
 {
-    let line: &mut [u8] = out;
-    call_line(line, at, k, b"refused", n)
+    call_line(out, at, k, b"refused", n)
 }
 
 // `call K cancelled N`: the call's place among the calls and the number of the title cancelled.
@@ -97,20 +90,19 @@ pub fn call_cancelled(out: &mut [u8; ROOM], at: usize, k: u64, n: u64) -> usize
     requires { ⌜ at + 64 ≤ 1064960 ⌝ }
     ensures { λ r. ⌜ Written 64 (now (out .entry)) at (callCancelled k n) (now (out .exit)) r ⌝ }
 {
-    let line: &mut [u8] = out;
-    call_line(line, at, k, b"cancelled", n)
+    call_line(out, at, k, b"cancelled", n)
 }
 
 // `call K W N`: the call's place among the calls, the word for its outcome, and a number.
-fn call_line(line: &mut [u8], at: usize, k: u64, outcome: &[u8], n: u64) -> usize
+fn call_line(out: &mut [u8; ROOM], at: usize, k: u64, outcome: &[u8], n: u64) -> usize
     requires { ⌜ length (now outcome) ≤ 16 ⌝ }
-    requires { ⌜ at + 64 ≤ length (now line) ⌝ }
-    ensures { λ r. ⌜ Written 64 (now (line .entry)) at (callLine k (now (outcome .entry)) n) (now (line .exit)) r ⌝ }
+    requires { ⌜ at + 64 ≤ 1064960 ⌝ }
+    ensures { λ r. ⌜ Written 64 (now (out .entry)) at (callLine k (now (outcome .entry)) n) (now (out .exit)) r ⌝ }
 {
-    let a = piece::word(line, at, b"call");
-    let b = piece::number(line, a, k);
-    let c = piece::byte(line, b, b' ');
-    let d = piece::word(line, c, outcome);
-    let e = piece::number(line, d, n);
-    piece::byte(line, e, b'\n')
+    let a = text::word(out, at, b"call");
+    let b = text::number(out, a, k);
+    let c = text::byte(out, b, b' ');
+    let d = text::word(out, c, outcome);
+    let e = text::number(out, d, n);
+    text::byte(out, e, b'\n')
 }

@@ -1,5 +1,5 @@
 -- `balance::main` meets its contract. Assumes nothing.
-use Rattle.report.proofs.Writing.{counts}
+use Rattle.text.proofs.Writing.{counts}
 use borrow.Author.Needs.{needs}
 use Rattle.balance.proofs.main.Statement.{statement}
 use Rattle.balance.proofs.main.Tie as tie

@@ -1,5 +1,5 @@
 -- `book_runs::run` meets its contract. Assumes nothing.
-use Rattle.report.proofs.Writing.{counts}
+use Rattle.text.proofs.Writing.{counts}
 use borrow.Author.Needs.{needs}
 use Rattle.book_runs.proofs.run.Statement.{statement}
 use Rattle.book_runs.proofs.run.Tie as tie

@@ -1,7 +1,7 @@
 -- `listing::accepted_line` meets its contract. Assumes nothing.
 use mathlib.Core.Path.{sym, ap}
 use Rattle.model.specs.declared.Call.{Call}
-use Rattle.report.proofs.Writing.{restate}
+use Rattle.text.proofs.Writing.{restate}
 use Rattle.listing.specs.Listing.{acceptedText}
 use borrow.Author.Needs.{needs}
 use Rattle.listing.proofs.accepted_line.Statement.{statement}

@@ -3,8 +3,8 @@ use mir.Syntax.{w64}
 use mir.Val.{SFits}
 use native.Mathlib.Numerals.{add-one}
 use Rattle.laws.proofs.Signs.{whole}
-use Rattle.report.specs.Text.{aquiferLine}
-use Rattle.report.proofs.Writing.{restate}
+use Rattle.report.specs.Lines.{aquiferLine}
+use Rattle.text.proofs.Writing.{restate}
 use borrow.Author.Needs.{needs}
 use Rattle.listing.proofs.aquifer_line.Statement.{statement}
 use Rattle.listing.proofs.aquifer_line.Tie as tie

@@ -1,7 +1,7 @@
 -- `listing::call_line` meets its contract. Assumes nothing.
 use mathlib.Core.Path.{sym, ap}
 use Rattle.model.specs.declared.Answer.{Answer}
-use Rattle.report.proofs.Writing.{restate}
+use Rattle.text.proofs.Writing.{restate}
 use Rattle.listing.specs.Listing.{callText}
 use borrow.Author.Needs.{needs}
 use Rattle.listing.proofs.call_line.Statement.{statement}

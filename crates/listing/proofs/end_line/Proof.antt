@@ -2,7 +2,7 @@
 use mathlib.Core.Path.{sym, ap}
 use native.Mathlib.Omega.{arith}
 use Rattle.model.specs.declared.Answer.{Answer}
-use Rattle.report.proofs.Writing.{restate, widen}
+use Rattle.text.proofs.Writing.{restate, widen}
 use Rattle.listing.specs.Listing.{endText}
 use borrow.Author.Needs.{needs}
 use Rattle.listing.proofs.end_line.Statement.{statement}

@@ -2,8 +2,8 @@
 use mathlib.Core.Path.{sym, ap, _∙_}
 use native.Mathlib.Omega.{arith}
 use Rattle.book.specs.declared.Opened.{Opened}
-use Rattle.report.specs.Text.{refusedLine}
-use Rattle.report.proofs.Writing.{widen, restate}
+use Rattle.report.specs.Lines.{refusedLine}
+use Rattle.text.proofs.Writing.{widen, restate}
 use Rattle.listing.specs.Listing.{runText}
 use Rattle.listing.proofs.Tables.{printed-long, printed-accepted, printed-refused}
 use borrow.Author.Needs.{needs}

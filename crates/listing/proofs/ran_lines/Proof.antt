@@ -1,6 +1,6 @@
 -- `listing::ran_lines` meets its contract. Assumes nothing.
 use native.Mathlib.Omega.{arith}
-use Rattle.report.proofs.Writing.{then}
+use Rattle.text.proofs.Writing.{then}
 use Rattle.listing.proofs.ran_lines.Statement.{statement}
 use Rattle.listing.proofs.ran_lines.Tie as tie
 

@@ -1,7 +1,7 @@
 -- `listing::run_lines` meets its contract. Assumes nothing.
 use mathlib.Core.Path.{ap}
 use native.Mathlib.Omega.{arith}
-use Rattle.report.proofs.Writing.{then, widen, restate}
+use Rattle.text.proofs.Writing.{then, widen, restate}
 use Rattle.listing.specs.Listing.{ranText}
 use borrow.Author.Needs.{needs}
 use Rattle.listing.proofs.run_lines.Statement.{statement}

@@ -5,7 +5,7 @@ use native.Mathlib.Omega.{arith}
 use Rattle.model.specs.View.{viewOf}
 use Rattle.basin.specs.Sound.{sound}
 use Rattle.basin.specs.declared.Figures.{Figures}
-use Rattle.report.proofs.Writing.{then, widen, restate}
+use Rattle.text.proofs.Writing.{then, widen, restate}
 use Rattle.listing.proofs.Tables.{accepted-sound, refused-unsound, few-units, few-aquifers, unit-lines-are, aquifer-lines-are, table-is, no-table}
 use borrow.Author.Needs.{needs}
 use Rattle.listing.proofs.table.Statement.{statement}

@@ -3,8 +3,8 @@ use mir.Syntax.{w64}
 use mir.Val.{SFits}
 use native.Mathlib.Numerals.{add-one}
 use Rattle.laws.proofs.Signs.{whole}
-use Rattle.report.specs.Text.{unitLine}
-use Rattle.report.proofs.Writing.{restate}
+use Rattle.report.specs.Lines.{unitLine}
+use Rattle.text.proofs.Writing.{restate}
 use borrow.Author.Needs.{needs}
 use Rattle.listing.proofs.unit_line.Statement.{statement}
 use Rattle.listing.proofs.unit_line.Tie as tie

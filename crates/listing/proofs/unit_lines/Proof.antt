@@ -5,8 +5,8 @@ use lib.ListN.{getD}
 use native.Mathlib.Omega.{arith}
 use native.Mathlib.Numerals.{add-one}
 use Rattle.river.specs.Figures.{noUnitFigures}
-use Rattle.report.specs.Text.{Written}
-use Rattle.report.proofs.Writing.{then, widen, restate, still}
+use Rattle.text.specs.Text.{Written}
+use Rattle.text.proofs.Writing.{then, widen, restate, still}
 use Rattle.listing.specs.Listing.{linesOf, unitText}
 use Rattle.listing.proofs.unit_lines.Statement.{statement}
 use Rattle.listing.proofs.unit_lines.Tie as tie

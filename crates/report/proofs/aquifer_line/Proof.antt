@@ -1,9 +1,9 @@
 -- `report::aquifer_line` meets its contract: the pieces, one after another, are the line. Assumes nothing.
 use borrow.Author.Needs.{needs}
 use native.Mathlib.Omega.{arith}
-use Rattle.report.specs.Text.{aquiferLine}
-use Rattle.report.proofs.Sign.{spaced}
-use Rattle.report.proofs.Writing.{restate, then, widen}
+use Rattle.report.specs.Lines.{aquiferLine}
+use Rattle.text.proofs.Sign.{spaced}
+use Rattle.text.proofs.Writing.{restate, then, widen}
 use Rattle.report.proofs.aquifer_line.Statement.{statement}
 use Rattle.report.proofs.aquifer_line.Tie as tie
 
@@ -28,11 +28,11 @@ byte-requires c κs = omega arith
 returns : tie.Need-returns
 unfolding aquiferLine
 returns c =
-    let s2 = c .before .before .before in
-    let s1 = s2 .before .before .before .before in
-    let n = s1 .before .before .before .before in
-    let w = n .before .before .before .before in
-    let start = w .before .before .before .before in
+    let s2 = c .before .before in
+    let s1 = s2 .before .before in
+    let n = s1 .before .before in
+    let w = n .before .before in
+    let start = w .before .before .before in
     let recharge = restate (s1 .signed .ensures) (spaced (start .args .recharge) (start .fits .recharge)) in
     let availability = restate (s2 .signed2 .ensures) (spaced (start .args .availability) (start .fits .availability)) in
     widen

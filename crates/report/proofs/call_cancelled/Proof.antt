@@ -1,6 +1,6 @@
 -- `report::call_cancelled` meets its contract, which is that of `call_line` at its word. Assumes nothing.
 use borrow.Author.Needs.{needs}
-use Rattle.report.specs.Text.{callCancelled}
+use Rattle.report.specs.Lines.{callCancelled}
 use Rattle.report.proofs.call_cancelled.Statement.{statement}
 use Rattle.report.proofs.call_cancelled.Tie as tie
 

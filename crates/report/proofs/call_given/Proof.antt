@@ -1,6 +1,6 @@
 -- `report::call_given` meets its contract, which is that of `call_line` at its word. Assumes nothing.
 use borrow.Author.Needs.{needs}
-use Rattle.report.specs.Text.{callGiven}
+use Rattle.report.specs.Lines.{callGiven}
 use Rattle.report.proofs.call_given.Statement.{statement}
 use Rattle.report.proofs.call_given.Tie as tie
 

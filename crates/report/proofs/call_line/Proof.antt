@@ -1,7 +1,7 @@
 -- `report::call_line` meets its contract: the pieces, one after another, are the line. Assumes nothing.
 use borrow.Author.Needs.{needs}
 use native.Mathlib.Omega.{arith}
-use Rattle.report.proofs.Writing.{then, widen}
+use Rattle.text.proofs.Writing.{then, widen}
 use Rattle.report.proofs.call_line.Statement.{statement}
 use Rattle.report.proofs.call_line.Tie as tie
 
@@ -26,23 +26,19 @@ number-requires-2 c κs = omega arith
 byte-requires-2 : tie.Need-byte-requires-2
 byte-requires-2 c κs = omega arith
 
-same-length : tie.Need-same-length
-same-length c = search needs
-
 returns : tie.Need-returns
 returns c =
-    let b2 = c .before .before in
-    let n2 = b2 .before .before .before .before in
-    let w2 = n2 .before .before .before .before in
-    let b1 = w2 .before .before .before .before in
-    let n1 = b1 .before .before .before .before in
-    let w1 = n1 .before .before .before .before in
+    let n2 = c .before .before in
+    let w2 = n2 .before .before in
+    let b1 = w2 .before .before in
+    let n1 = b1 .before .before in
+    let w1 = n1 .before .before in
     widen
     (then (w1 .word .ensures)
     (then (n1 .number .ensures)
     (then (b1 .byte .ensures)
-    (then (w2 .word2 .ensures) (then (n2 .number2 .ensures) (b2 .byte2 .ensures))))))
-    (omega (arith, w1 .before .before .before .before .before .pre))
+    (then (w2 .word2 .ensures) (then (n2 .number2 .ensures) (c .byte2 .ensures))))))
+    (omega (arith, w1 .before .before .before .before .pre))
 
 pub call-line-spec : {M : Type 1} → statement M
 call-line-spec =
@@ -55,5 +51,4 @@ call-line-spec =
     word-requires-2
     number-requires-2
     byte-requires-2
-    same-length
     returns)

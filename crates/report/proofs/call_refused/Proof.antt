@@ -1,6 +1,6 @@
 -- `report::call_refused` meets its contract, which is that of `call_line` at its word. Assumes nothing.
 use borrow.Author.Needs.{needs}
-use Rattle.report.specs.Text.{callRefused}
+use Rattle.report.specs.Lines.{callRefused}
 use Rattle.report.proofs.call_refused.Statement.{statement}
 use Rattle.report.proofs.call_refused.Tie as tie
 

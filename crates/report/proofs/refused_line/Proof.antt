@@ -1,8 +1,8 @@
 -- `report::refused_line` meets its contract: the pieces, one after another, are the line. Assumes nothing.
 use borrow.Author.Needs.{needs}
 use native.Mathlib.Omega.{arith}
-use Rattle.report.specs.Text.{refusedLine}
-use Rattle.report.proofs.Writing.{then, widen}
+use Rattle.report.specs.Lines.{refusedLine}
+use Rattle.text.proofs.Writing.{then, widen}
 use Rattle.report.proofs.refused_line.Statement.{statement}
 use Rattle.report.proofs.refused_line.Tie as tie
 
@@ -30,10 +30,10 @@ byte-requires c κs = omega arith
 returns : tie.Need-returns
 unfolding refusedLine
 returns c =
-    let n2 = c .before .before .before in
-    let w2 = n2 .before .before .before .before in
-    let n1 = w2 .before .before .before .before .before in
-    let w1 = n1 .before .before .before .before in
+    let n2 = c .before .before in
+    let w2 = n2 .before .before in
+    let n1 = w2 .before .before .before in
+    let w1 = n1 .before .before in
     widen
     (then (w1 .word .ensures)
     (then (n1 .number .ensures)

@@ -1,9 +1,9 @@
 -- `report::unit_line` meets its contract: the pieces, one after another, are the line. Assumes nothing.
 use borrow.Author.Needs.{needs}
 use native.Mathlib.Omega.{arith}
-use Rattle.report.specs.Text.{unitLine}
-use Rattle.report.proofs.Sign.{spaced}
-use Rattle.report.proofs.Writing.{restate, then, widen}
+use Rattle.report.specs.Lines.{unitLine}
+use Rattle.text.proofs.Sign.{spaced}
+use Rattle.text.proofs.Writing.{restate, then, widen}
 use Rattle.report.proofs.unit_line.Statement.{statement}
 use Rattle.report.proofs.unit_line.Tie as tie
 
@@ -34,13 +34,13 @@ byte-requires c κs = omega arith
 returns : tie.Need-returns
 unfolding unitLine
 returns c =
-    let s2 = c .before .before .before in
-    let n3 = s2 .before .before .before .before in
-    let n2 = n3 .before .before .before .before in
-    let s1 = n2 .before .before .before .before in
-    let n1 = s1 .before .before .before .before in
-    let w = n1 .before .before .before .before in
-    let start = w .before .before .before .before in
+    let s2 = c .before .before in
+    let n3 = s2 .before .before in
+    let n2 = n3 .before .before in
+    let s1 = n2 .before .before in
+    let n1 = s1 .before .before in
+    let w = n1 .before .before in
+    let start = w .before .before .before in
     let flow = restate (s1 .signed .ensures) (spaced (start .args .flow) (start .fits .flow)) in
     let availability = restate (s2 .signed2 .ensures) (spaced (start .args .availability) (start .fits .availability)) in
     widen

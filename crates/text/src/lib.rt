@@ -1,11 +1,12 @@
-// The pieces of a line. Each goes into the lent buffer at a position, and the answer is the position past it.
+// The pieces of a printed line: bytes, words and decimal numbers put into a lent buffer. Each goes in at a position, and the answer is
+// the position past it.
 ghost use Prim.Native.Nat.{_+_, _≤_};
 ghost use mathlib.Core.Path.{_≡_};
 ghost use lib.IntN.{natAbs};
 ghost use mathlib.Core.List.{[], _∷_, _++_};
 ghost use lib.ListN.{length};
-ghost use Rattle.report.specs.Text.{ascii, Written};
-ghost use Rattle.report.specs.Text.{decimal as Text·decimal, signed as Text·signed};
+ghost use Rattle.text.specs.Text.{ascii, Written};
+ghost use Rattle.text.specs.Text.{decimal as Text·decimal, signed as Text·signed};
 
 // One byte.
 pub fn byte(out: &mut [u8], at: usize, b: u8) -> usize

@@ -1,11 +1,11 @@
--- `report::piece::magnitude` meets its contract, and no step of it wraps. Assumes nothing.
+-- `text::magnitude` meets its contract, and no step of it wraps. Assumes nothing.
 use borrow.Author.Needs.{needs}
 use mathlib.Core.Path.{sym}
 use Prim.Native.Nat.{ℕ}
 use native.Mathlib.Omega.{arith}
-use Rattle.report.proofs.Sign.{Below, below, kept}
-use Rattle.report.proofs.piece.magnitude.Statement.{statement}
-use Rattle.report.proofs.piece.magnitude.Tie as tie
+use Rattle.text.proofs.Sign.{Below, below, kept}
+use Rattle.text.proofs.magnitude.Statement.{statement}
+use Rattle.text.proofs.magnitude.Tie as tie
 
 found : (c : tie.Then1) → (k : ℕ) × Below (c .before .args .z) k
 found c = below (c .before .args .z) (c .before .fits .z) (c .if1 .taken)

@@ -7,7 +7,7 @@ use native.Mathlib.Numerals.{add-one}
 use native.Mathlib.Omega.{arith}
 use lib.ListN.{length, take, drop, set, length-append}
 use lib.Seq.{paste, paste-zero, take-length, length-take-le, length-paste, take-paste, drop-paste, drop-drop, set-split, append-snoc}
-use Rattle.report.specs.Text.{written, Written}
+use Rattle.text.specs.Text.{written, Written}
 
 written-parts : (old : List ℕ) (at : ℕ) (text : List ℕ) → written old at text ≡ take at old ++ text ++ drop (at + length text) old
 unfolding written

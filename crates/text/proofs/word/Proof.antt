@@ -1,4 +1,4 @@
--- `report::piece::word` meets its contract. The loop's invariant: the first i bytes of text are copied in. Assumes nothing.
+-- `text::word` meets its contract. The loop's invariant: the first i bytes of text are copied in. Assumes nothing.
 use mathlib.Core.Path.{_≡_, refl, ap, _∙_}
 use Prim.Native.Nat.{ℕ, _≤_, _-_}
 use native.Mathlib.Omega.{arith}
@@ -6,9 +6,9 @@ use native.Mathlib.Numerals.{add-one}
 use lib.ListN.{length, length-set}
 use lib.Seq.{paste, paste-zero, paste-suc}
 use denote.Ref.{now}
-use Rattle.report.proofs.Writing.{all-copied}
-use Rattle.report.proofs.piece.word.Statement.{statement}
-use Rattle.report.proofs.piece.word.Tie as tie
+use Rattle.text.proofs.Writing.{all-copied}
+use Rattle.text.proofs.word.Statement.{statement}
+use Rattle.text.proofs.word.Tie as tie
 
 abbrev Inv-loop : tie.InvT-loop
 Inv-loop out₀ at text i₀ out i = (i ≤ length text) × (out ≡ paste out₀ at text i) × (length out ≡ length out₀)

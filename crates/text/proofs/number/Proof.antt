@@ -1,8 +1,8 @@
--- `report::piece::number` meets its contract: the space and then the digits. Assumes nothing.
+-- `text::number` meets its contract: the space and then the digits. Assumes nothing.
 use borrow.Author.Needs.{needs}
-use Rattle.report.proofs.Writing.{then}
-use Rattle.report.proofs.piece.number.Statement.{statement}
-use Rattle.report.proofs.piece.number.Tie as tie
+use Rattle.text.proofs.Writing.{then}
+use Rattle.text.proofs.number.Statement.{statement}
+use Rattle.text.proofs.number.Tie as tie
 
 byte-requires : tie.Need-byte-requires
 byte-requires c κs = search needs

@@ -1,13 +1,13 @@
--- `report::piece::digits` meets its contract: what `io::decimal` spells is the number's decimal text, of at most 20 bytes. Assumes nothing.
+-- `text::digits` meets its contract: what `io::decimal` spells is the number's decimal text, of at most 20 bytes. Assumes nothing.
 use borrow.Author.Needs.{needs}
 use mathlib.Core.Path.{ap, _∙_}
 use native.Mathlib.Omega.{arith}
 use lib.ListN.{length}
-use Rattle.report.specs.Text.{decimal}
-use Rattle.report.proofs.Decimal.{digits-decimal, decimal-short}
-use Rattle.report.proofs.Writing.{restate, widen}
-use Rattle.report.proofs.piece.digits.Statement.{statement}
-use Rattle.report.proofs.piece.digits.Tie as tie
+use Rattle.text.specs.Text.{decimal}
+use Rattle.text.proofs.Decimal.{digits-decimal, decimal-short}
+use Rattle.text.proofs.Writing.{restate, widen}
+use Rattle.text.proofs.digits.Statement.{statement}
+use Rattle.text.proofs.digits.Tie as tie
 
 decimal-requires : tie.Need-decimal-requires
 decimal-requires c κs = search needs

@@ -8,7 +8,7 @@ use native.Mathlib.Omega.{arith}
 use borrow.Author.Tests.{lt-ltb, le-ltb}
 use lib.ListN.{length, length-append}
 use Rattle.io.specs.Digits.{glyph, digits, Fewest}
-use Rattle.report.specs.Text.{digit, decimalBelow, decimal}
+use Rattle.text.specs.Text.{digit, decimalBelow, decimal}
 
 -- a number below 10 is its one digit
 one : (bound n : ℕ) → n < 10 → decimalBelow (suc bound) n ≡ digit n

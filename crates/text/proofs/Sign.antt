@@ -12,7 +12,7 @@ use lib.Signed.{ltZ, nonNeg}
 use mir.Syntax.{w64}
 use mir.Val.{Fits, SFits, toZ, ofZ}
 use mir.ValLaws.{toZ-ofZ}
-use Rattle.report.specs.Text.{ascii, decimal, signed}
+use Rattle.text.specs.Text.{ascii, decimal, signed}
 
 -- what is read back from the bits of z
 abbrev pub held : ℤ → ℤ

@@ -1,10 +1,10 @@
--- `report::piece::byte` meets its contract: one store is one byte written. Assumes nothing.
+-- `text::byte` meets its contract: one store is one byte written. Assumes nothing.
 use borrow.Author.Needs.{needs}
 use native.Mathlib.Omega.{arith}
 use denote.Ref.{now}
-use Rattle.report.proofs.Writing.{byte-stored}
-use Rattle.report.proofs.piece.byte.Statement.{statement}
-use Rattle.report.proofs.piece.byte.Tie as tie
+use Rattle.text.proofs.Writing.{byte-stored}
+use Rattle.text.proofs.byte.Statement.{statement}
+use Rattle.text.proofs.byte.Tie as tie
 
 slice-write-out : tie.Need-slice-write-out
 slice-write-out c = search needs

@@ -1,10 +1,10 @@
--- `report::piece::signed` meets its contract, by the sign and the size of z. Assumes nothing.
+-- `text::signed` meets its contract, by the sign and the size of z. Assumes nothing.
 use borrow.Author.Needs.{needs}
 use native.Mathlib.Omega.{arith}
-use Rattle.report.proofs.Sign.{signed-below, signed-else}
-use Rattle.report.proofs.Writing.{restate, then, widen}
-use Rattle.report.proofs.piece.signed.Statement.{statement}
-use Rattle.report.proofs.piece.signed.Tie as tie
+use Rattle.text.proofs.Sign.{signed-below, signed-else}
+use Rattle.text.proofs.Writing.{restate, then, widen}
+use Rattle.text.proofs.signed.Statement.{statement}
+use Rattle.text.proofs.signed.Tie as tie
 
 magnitude-requires : tie.Need-magnitude-requires
 magnitude-requires c κs = search needs
