@@ -24,21 +24,21 @@ pub struct Sums {
     pub wells: [u64; 64],
 }
 
-// The percentage that returns of each use, 1 to 7: agriculture, urban, industry, domestic, livestock, aquaculture, power.
-const PERCENT: [u64; 7] = [20, 75, 55, 75, 15, 100, 100];
-
-// The percentage of a use that returns (000, 4.2.5), 0 for a use outside 1 to 7.
+// The percentage of a use that returns (000, 4.2.5): 1 agriculture, 2 urban, 3 industry, 4 domestic, 5 livestock, 6 aquaculture,
+// 7 power; 0 for a use outside 1 to 7.
 pub fn return_percent(usage: u8) -> u64
     ensures { λ r. ⌜ r ≡ adds.returnPercent usage ⌝ }
 {
-    if usage < 1 {
-        return 0;
+    match usage {
+        1 => 20,
+        2 => 75,
+        3 => 55,
+        4 => 75,
+        5 => 15,
+        6 => 100,
+        7 => 100,
+        _ => 0,
     }
-    if 7 < usage {
-        return 0;
-    }
-    let place = (usage - 1) as usize;
-    PERCENT[place]
 }
 
 // floor(volume × r / 100), r being the percentage of the use.
