@@ -4,7 +4,6 @@ use mathlib.Core.Path.{_≡_}
 use mathlib.Core.Bool.{true, false}
 use native.Mathlib.Omega.{arith}
 use native.Mathlib.Numerals.{add-one}
-use borrow.Author.Needs.{needs}
 use borrow.Author.Count.{falls}
 use Rattle.laws.proofs.Arrays.{Filled, filled-start, filled-put, filled-table}
 use Rattle.model.specs.View.{viewOf}

@@ -16,10 +16,10 @@ use Rattle.laws.proofs.Gathering.{arriving-stays}
 use Rattle.laws.proofs.Arrays.{Filled, filled-start, filled-put, filled-keep, Arrived, arrived-start, arrived-out, arrived-on}
 use Rattle.model.specs.View.{View, viewOf}
 use Rattle.river.specs.Flow.{downstream, gathered}
-use Rattle.river.specs.Reserve.{contribution, total}
+use Rattle.river.specs.Reserve.{contribution}
 use Rattle.river.specs.Passes.{runningBefore}
-use Rattle.river.proofs.Flows.{tree, gathered-is, gathered-small, arrived-small, small}
-use Rattle.river.proofs.Reserves.{Below, below-of, contribution-is, running-within, total-small}
+use Rattle.river.proofs.Flows.{tree, gathered-is, gathered-small, small}
+use Rattle.river.proofs.Reserves.{Below, below-of, contribution-is, left-within, total-small}
 use Rattle.river.proofs.Carried.{Carried, Whole, carried-start, carried-whole, whole-out, whole-on, left-small, carried-gathered}
 use Rattle.river.proofs.flow.flow_amounts.Statement.{statement}
 use Rattle.river.proofs.flow.flow_amounts.Tie as tie
@@ -211,10 +211,6 @@ contributed c =
     let i = c .before .before .before .before .before .before .before .loop .i in
     omega (arith, c .contribution .ensures, more-is (c .before .before .before .before), less-is (c .before .before .before), contribution-is v i)
 
-here : (v : View) (i : ℕ) → Below v i
-    → arriving naturals (downstream v) (contribution v) i (downstream v i - 1) + contribution v i ≤ total v (pred (downstream v i))
-here v i b = rw (sub-one (downstream v i)) (running-within v i b)
-
 found-is : (v : View) (i : ℕ) → Below v i → arriving naturals (downstream v) (contribution v) i (downstream v i - 1) ≡ runningBefore v i
 found-is v i b = rw (ne-eqb (downstream v i) 0 (omega (arith, b .next)), sub-one (downstream v i))
 
@@ -230,7 +226,7 @@ add-arrived c =
       arith,
       loop .inv .4 .each (downstream v (loop .i) - 1) (array-read-gained (c .before)),
       contributed c,
-      here v (loop .i) (onward (c .before)),
+      left-within v (loop .i) (onward (c .before)),
       total-small v (start .pre) (pred (downstream v (loop .i))) (onward (c .before) .within),
     )
 

@@ -1,23 +1,21 @@
 -- `river::first_negative` meets its contract. The loop's invariant: none of the first i units has a negative flow, and `arrived` holds what
 -- those contributed to each unit. Assumes nothing.
 use Prim.Native.Nat.{ℕ, suc, pred, _≤_, _<_, _+_, _-_}
-use mathlib.Core.Path.{_≡_, ap, sym, _∙_}
+use mathlib.Core.Path.{_≡_, ap, sym}
 use mathlib.Core.Logic.{⊎-elim}
-use mathlib.Core.Bool.{true, false, not}
+use mathlib.Core.Bool.{true, not}
 use native.Mathlib.Omega.{arith}
-use native.Mathlib.Numerals.{add-one, sub-one}
-use borrow.Author.Count.{below-none, below-more, falls}
+use native.Mathlib.Numerals.{add-one}
+use borrow.Author.Count.{below-none, below-more}
 use lib.ListN.{getD}
 use lib.Signed.{nonNeg}
-use Rattle.laws.specs.Sum.{naturals}
-use Rattle.laws.specs.Gather.{arriving}
 use Rattle.laws.proofs.Parts.{Less, less-monus, less-nonNeg, less-negative}
 use Rattle.laws.proofs.Arrays.{Arrived, arrived-start, arrived-out, arrived-on}
-use Rattle.model.specs.View.{View, viewOf}
+use Rattle.model.specs.View.{viewOf}
 use Rattle.river.specs.Flow.{downstream, flow}
-use Rattle.river.specs.Reserve.{contribution, total}
+use Rattle.river.specs.Reserve.{contribution}
 use Rattle.river.proofs.Flows.{small}
-use Rattle.river.proofs.Reserves.{Below, below-of, flow-reached, running-within, total-small}
+use Rattle.river.proofs.Reserves.{Below, below-of, flow-reached, left-within, total-small}
 use Rattle.river.proofs.Firsts.{first-at, first-nothing}
 use Rattle.river.proofs.search.first_negative.Statement.{statement}
 use Rattle.river.proofs.search.first_negative.Tie as tie
@@ -103,10 +101,6 @@ contributed : (c : tie.After-struct-known Inv-loop μ-loop)
     ≡ contribution (viewOf (c .before .before .before .before .before .before .before .args .t1)) (c .before .before .before .before .before .before .loop .i)
 contributed c = sym (less-monus (reached (c .before .before)))
 
-here : (v : View) (i : ℕ) → Below v i
-    → arriving naturals (downstream v) (contribution v) i (downstream v i - 1) + contribution v i ≤ total v (pred (downstream v i))
-here v i b = rw (sub-one (downstream v i)) (running-within v i b)
-
 add-arrived : tie.Need-add-arrived Inv-loop μ-loop
 add-arrived c =
     let start = c .before .before .before .before .before .before .before .before in
@@ -116,7 +110,7 @@ add-arrived c =
       arith,
       loop .inv .2 .each (downstream v (loop .i) - 1) (array-read-arrived c),
       contributed (c .before),
-      here v (loop .i) (onward c),
+      left-within v (loop .i) (onward c),
       total-small v (start .pre) (pred (downstream v (loop .i))) (onward c .within),
     )
 
