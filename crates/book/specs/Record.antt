@@ -22,13 +22,13 @@ spells a b x y = eqb a x && eqb b y
 abbrev pub isCall : ℕ → ℕ → Bool
 isCall a b = spells a b 71 85 || (spells a b 71 65 || (spells a b 84 85 || (spells a b 84 65 || spells a b 67 65)))
 
--- The marks: UN, SU, PR, AF and AC of a description, and those of the calls.
+-- The marks: PR, AF, SU, UN and AC of a description, and those of the calls.
 abbrev pub markOf : ℕ → ℕ → Mark
 markOf a b =
-    cond (spells a b 85 78) Un
-    (cond (spells a b 83 85) Su
-    (cond (spells a b 80 82) Pr
+    cond (spells a b 80 82) Pr
     (cond (spells a b 65 70) Af
+    (cond (spells a b 83 85) Su
+    (cond (spells a b 85 78) Un
     (cond (spells a b 65 67) Ac
     (cond (isCall a b) Call
     Unknown)))))

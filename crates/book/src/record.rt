@@ -47,17 +47,17 @@ pub fn is_call(a: u8, b: u8) -> bool
 pub fn mark_of(a: u8, b: u8) -> Mark
     ensures { λ r. ⌜ r ≡ records.markOf a b ⌝ }
 {
-    if spells(a, b, 85, 78) {
-        return Mark::Un;
-    }
-    if spells(a, b, 83, 85) {
-        return Mark::Su;
-    }
     if spells(a, b, 80, 82) {
         return Mark::Pr;
     }
     if spells(a, b, 65, 70) {
         return Mark::Af;
+    }
+    if spells(a, b, 83, 85) {
+        return Mark::Su;
+    }
+    if spells(a, b, 85, 78) {
+        return Mark::Un;
     }
     if spells(a, b, 65, 67) {
         return Mark::Ac;
