@@ -54,7 +54,7 @@ raised-at xs n a l w lo hi =
     }
 
 -- What holds of each of the five entries holds of all of them.
-pub by-slot : (P : Slot → Type 0) → P Extraction → P Exports → P Imports → P Returns → P WellExtraction → (s : Slot) → P s
+by-slot : (P : Slot → Type 0) → P Extraction → P Exports → P Imports → P Returns → P WellExtraction → (s : Slot) → P s
 by-slot P a b c d e Extraction = a
 by-slot P a b c d e Exports = b
 by-slot P a b c d e Imports = c

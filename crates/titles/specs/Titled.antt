@@ -39,6 +39,7 @@ sumsOf r Imports = r .imports
 sumsOf r Returns = r .returns
 sumsOf r WellExtraction = r .wells
 
+-- Five lists of sums, in the order of the entries.
 abbrev pub five : List ℕ → List ℕ → List ℕ → List ℕ → List ℕ → Sums
 five extraction exports imports returns wells =
     record { extraction = extraction; exports = exports; imports = imports; returns = returns; wells = wells }
