@@ -1,8 +1,12 @@
 // Makes the five calls on balances that are broken in each way that gives 0, and on sound ones at the limits. The base of them all is
-// the balance of the book `broken-base` after its calls.
-mod broken;
-mod faults;
+// the balance of the book `broken-base` after its calls; each line of the file `balances` says what is printed and what is changed in it.
+ghost use Rattle.io.specs.Counts.{Counts};
+
+mod change;
+mod changed;
+mod line;
 mod print;
+mod replies;
 
 use model::Balance;
 
@@ -15,19 +19,24 @@ fn balance_of(s: &[u8]) -> Balance {
     ran.balance
 }
 
-// The balance of the book in a file.
-fn read(name: &[u8]) -> Balance {
+// The bytes of a file, put into a buffer, and how many they are.
+fn read(name: &[u8], bytes: &mut [u8; 65537]) -> usize
+    ensures { λ r. ⌜ Counts r (now (bytes .exit)) ⌝ }
+{
     let fd = os::open_read(name);
     if fd < 0 {
         os::fail(name);
-        return Balance::fresh();
+        return 0;
     }
-    let mut book = [0u8; 65537];
-    let n = io::read_full(fd, &mut book);
+    let n = io::read_full(fd, bytes);
     libc::close(fd);
-    balance_of(&book[..n])
+    n
 }
 
 fn main() {
-    faults::all(read(b"broken-base"));
+    let mut bytes = [0u8; 65537];
+    let n = read(b"broken-base", &mut bytes);
+    let base = balance_of(&bytes[..n]);
+    let m = read(b"balances", &mut bytes);
+    line::run(base, &bytes[..m]);
 }

@@ -1,0 +1,42 @@
+// The five calls made on a balance, and the replies printed.
+use crate::print;
+use model::Answer;
+use model::Balance;
+use register::Reply;
+
+// ` R:N`: the refusal's number or the word for an accepted call, and the reply's title number.
+fn show(word: &[u8], r: Reply) {
+    let answer = r.answer;
+    match answer {
+        Answer::Accepted => print::text(word),
+        Answer::Refused(code) => print::number(code as u64),
+    }
+    print::text(b":");
+    print::digits(r.number as u64);
+}
+
+// The replies to grants: first with small volumes, then with 0 for every argument.
+fn grants(b: Balance) {
+    show(b" given", register::withdraw(b, 1, 1, 1));
+    show(b" given", register::pump(b, 1, 1));
+    show(b" given", register::transfer(b, 1, 2, 1));
+    show(b" given", register::bring(b, 1, 2, 1));
+    show(b" given", register::withdraw(b, 0, 0, 0));
+    show(b" given", register::pump(b, 0, 0));
+    show(b" given", register::transfer(b, 0, 0, 0));
+    show(b" given", register::bring(b, 0, 0, 0));
+}
+
+// The replies to cancellations: of the transfer from an aquifer, of the withdrawal from one, and of no title.
+fn cancellations(b: Balance) {
+    show(b" cancelled", register::cancel(b, 3));
+    show(b" cancelled", register::cancel(b, 4));
+    show(b" cancelled", register::cancel(b, 0));
+}
+
+// All replies, and the end of the line.
+pub(crate) fn replies(b: Balance) {
+    grants(b);
+    cancellations(b);
+    print::text(b"\n");
+}
