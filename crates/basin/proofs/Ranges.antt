@@ -16,7 +16,7 @@ use Rattle.laws.specs.Signed.{above, below}
 use Rattle.model.specs.View.{termLimit}
 use Rattle.model.specs.declared.Aquifer.{Aquifer}
 use Rattle.river.specs.Wells.{recharge}
-use Rattle.river.proofs.Aquifers.{recharge-is}
+use Rattle.figures.proofs.Aquifers.{recharge-is}
 use Rattle.basin.specs.Sound.{isStorage}
 use Rattle.basin.proofs.Chains.{stop-leb, go-leb, both-hold}
 use Rattle.laws.proofs.Every.{both}

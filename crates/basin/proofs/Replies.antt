@@ -5,9 +5,9 @@ use mathlib.Core.List.{List}
 use lib.ListN.{replicate}
 use Rattle.model.specs.View.{View}
 use Rattle.model.specs.declared.Answer.the-variants.{Accepted, Refused}
-use Rattle.river.specs.declared.UnitFigures.{UnitFigures}
-use Rattle.river.specs.declared.AquiferFigures.{AquiferFigures}
-use Rattle.river.specs.Figures.{noUnitFigures, noAquiferFigures, allUnitFigures, allAquiferFigures}
+use Rattle.figures.specs.declared.UnitFigures.{UnitFigures}
+use Rattle.figures.specs.declared.AquiferFigures.{AquiferFigures}
+use Rattle.figures.specs.Figures.{noUnitFigures, noAquiferFigures, allUnitFigures, allAquiferFigures}
 use Rattle.basin.specs.Sound.{sound}
 use Rattle.basin.specs.Figures.{figuresReply}
 use Rattle.basin.specs.declared.Figures.{Figures}

@@ -19,7 +19,7 @@ use Rattle.model.specs.Fresh.{freshBalance}
 use Rattle.model.specs.View.{View, viewOf, termLimit}
 use Rattle.river.specs.Flow.{flow, Ready}
 use Rattle.river.specs.Wells.{recharge}
-use Rattle.river.specs.Figures.{WellsReady}
+use Rattle.figures.specs.Figures.{WellsReady}
 use Rattle.titles.specs.Adds.{titled}
 use Rattle.titles.specs.declared.Slot.the-variants.{Extraction, Exports, Imports, Returns, WellExtraction}
 use Rattle.basin.specs.Sound

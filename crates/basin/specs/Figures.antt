@@ -3,7 +3,7 @@ use mathlib.Core.Bool.{cond, not}
 use lib.ListN.{replicate}
 use Rattle.model.specs.Answers.{none, refuse, answered}
 use Rattle.model.specs.View.{View}
-use Rattle.river.specs.Figures.{noUnitFigures, noAquiferFigures, allUnitFigures, allAquiferFigures}
+use Rattle.figures.specs.Figures.{noUnitFigures, noAquiferFigures, allUnitFigures, allAquiferFigures}
 use Rattle.basin.specs.Sound.{sound}
 use Rattle.basin.specs.declared.Figures.{Figures}
 

@@ -5,11 +5,11 @@ mod places;
 pub mod reply;
 mod test;
 
+use figures::AquiferFigures;
+use figures::UnitFigures;
 use model::Answer;
 pub use places::exists;
 pub use places::is_volume;
-use river::AquiferFigures;
-use river::UnitFigures;
 pub use test::sound;
 
 // The reply of reading the figures: the answer, and the figures of each unit and aquifer under its number less one.

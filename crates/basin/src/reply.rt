@@ -2,14 +2,14 @@
 ghost use mathlib.Core.Path.{_≡_};
 ghost use lib.ListN.{replicate};
 ghost use Rattle.model.specs.View.{viewOf};
-ghost use Rattle.river.specs.Figures.{noUnitFigures, noAquiferFigures};
+ghost use Rattle.figures.specs.Figures.{noUnitFigures, noAquiferFigures};
 ghost use Rattle.basin.specs.Figures as replies;
 use crate::Figures;
 use crate::test::sound;
+use figures::AquiferFigures;
+use figures::UnitFigures;
 use model::Answer;
 use model::Balance;
-use river::AquiferFigures;
-use river::UnitFigures;
 
 // 0 in every place for units.
 fn no_units() -> [UnitFigures; 64]
@@ -48,7 +48,7 @@ pub fn figures(b: Balance) -> Figures
     }
     Figures {
         answer: Answer::Accepted,
-        units: river::unit_figures(b),
-        aquifers: river::aquifer_figures(b),
+        units: figures::unit_figures(b),
+        aquifers: figures::aquifer_figures(b),
     }
 }

@@ -19,9 +19,9 @@ use Rattle.runoff.specs.Mean.{rounded}
 use Rattle.runoff.specs.Record.{Plot, areaOf, weightedOf, rainSum, rainRunoff}
 use Rattle.river.specs.Flow.{flow}
 use Rattle.river.specs.Reserve.{contribution, inflow, total, demand, committedTo, committed, ownReserve}
-use Rattle.river.specs.Figures.{unitFigures, aquiferFigures, noUnitFigures, noAquiferFigures}
-use Rattle.river.specs.declared.UnitFigures.{UnitFigures}
-use Rattle.river.specs.declared.AquiferFigures.{AquiferFigures}
+use Rattle.figures.specs.Figures.{unitFigures, aquiferFigures, noUnitFigures, noAquiferFigures}
+use Rattle.figures.specs.declared.UnitFigures.{UnitFigures}
+use Rattle.figures.specs.declared.AquiferFigures.{AquiferFigures}
 use Rattle.basin.specs.Sound.{sound}
 use Rattle.basin.specs.Figures.{figuresReply}
 use Rattle.basin.specs.declared.Figures.{Figures}

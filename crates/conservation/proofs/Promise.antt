@@ -16,9 +16,9 @@ use Rattle.model.specs.declared.Answer.the-variants.{Accepted}
 use Rattle.model.specs.declared.Balance.{Balance}
 use Rattle.model.specs.View.{View}
 use Rattle.titles.specs.declared.Slot.the-variants.{Exports, Imports}
-use Rattle.river.specs.declared.UnitFigures.{UnitFigures}
+use Rattle.figures.specs.declared.UnitFigures.{UnitFigures}
 use Rattle.river.specs.Flow.{flow, net, Ready}
-use Rattle.river.specs.Figures.{noUnitFigures, unitFigures, allUnitFigures, allAquiferFigures}
+use Rattle.figures.specs.Figures.{noUnitFigures, unitFigures, allUnitFigures, allAquiferFigures}
 use Rattle.basin.specs.declared.Figures.{Figures}
 use Rattle.basin.specs.Figures.{figuresReply}
 use Rattle.basin.specs.Sound.{sound}

@@ -27,7 +27,7 @@ use Rattle.titles.specs.declared.Slot.{Slot}
 use Rattle.titles.specs.declared.Slot.the-variants.{Extraction, Exports, Imports, Returns, WellExtraction}
 use Rattle.titles.specs.Adds.{placeAdds}
 use Rattle.river.specs.Flow.{downstream}
-use Rattle.river.specs.Figures.{noUnitFigures, allUnitFigures, allAquiferFigures}
+use Rattle.figures.specs.Figures.{noUnitFigures, allUnitFigures, allAquiferFigures}
 use Rattle.basin.specs.declared.Figures.{Figures}
 use Rattle.basin.specs.Figures.{figuresReply}
 use Rattle.reach.specs.Reach.{liesBelow}

@@ -6,11 +6,11 @@ ghost use Rattle.listing.specs.Listing.{printed};
 ghost use Rattle.book.specs.Reading.{opened};
 ghost use Rattle.dashboard.specs.Table as tables;
 use calls::Ran;
+use figures::AquiferFigures;
+use figures::UnitFigures;
 use model::Answer;
 use model::Balance;
 use report::ROOM;
-use river::AquiferFigures;
-use river::UnitFigures;
 
 // The table of a book after its calls: whether its description was accepted, the number and place of a refusal or of a call record that
 // failed (0 if none), and the figures, with 0 in the unused places.

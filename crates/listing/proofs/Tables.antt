@@ -11,9 +11,9 @@ use Rattle.laws.proofs.Arrays.{getD-table}
 use Rattle.model.specs.declared.Answer.{Answer}
 use Rattle.model.specs.declared.Answer.the-variants.{Accepted, Refused}
 use Rattle.model.specs.View.{View, viewOf}
-use Rattle.river.specs.declared.UnitFigures.{UnitFigures}
-use Rattle.river.specs.declared.AquiferFigures.{AquiferFigures}
-use Rattle.river.specs.Figures.{unitFigures, noUnitFigures, allUnitFigures, aquiferFigures, noAquiferFigures, allAquiferFigures}
+use Rattle.figures.specs.declared.UnitFigures.{UnitFigures}
+use Rattle.figures.specs.declared.AquiferFigures.{AquiferFigures}
+use Rattle.figures.specs.Figures.{unitFigures, noUnitFigures, allUnitFigures, aquiferFigures, noAquiferFigures, allAquiferFigures}
 use Rattle.basin.specs.Sound.{sound}
 use Rattle.basin.specs.Figures.{figuresReply}
 use Rattle.basin.proofs.Soundness.{soundness}

@@ -10,9 +10,9 @@ use Rattle.model.specs.declared.Call.{Call}
 use Rattle.model.specs.declared.Call.the-variants.{Grant, Cancel}
 use Rattle.model.specs.declared.Balance.{Balance}
 use Rattle.model.specs.View.{View, viewOf}
-use Rattle.river.specs.declared.UnitFigures.{UnitFigures}
-use Rattle.river.specs.declared.AquiferFigures.{AquiferFigures}
-use Rattle.river.specs.Figures.{unitFigures, aquiferFigures}
+use Rattle.figures.specs.declared.UnitFigures.{UnitFigures}
+use Rattle.figures.specs.declared.AquiferFigures.{AquiferFigures}
+use Rattle.figures.specs.Figures.{unitFigures, aquiferFigures}
 use Rattle.basin.specs.Sound.{sound}
 use Rattle.book.specs.Reading.{opened}
 use Rattle.book.specs.Calls.{callsOf}

@@ -4,19 +4,19 @@ ghost use mathlib.Core.List.{_++_};
 ghost use Prim.Native.Nat.{_+_, _≤_};
 ghost use lib.ListN.{length, getD};
 ghost use Rattle.model.specs.View.{viewOf};
-ghost use Rattle.river.specs.Figures.{noUnitFigures, noAquiferFigures};
+ghost use Rattle.figures.specs.Figures.{noUnitFigures, noAquiferFigures};
 ghost use Rattle.text.specs.Text.{Written};
 ghost use Rattle.listing.specs.Listing as text;
 ghost use Rattle.listing.specs.Printing as printing;
 use basin::reply::figures;
 use book::CallAt;
 use calls::Ran;
+use figures::AquiferFigures;
+use figures::UnitFigures;
 use model::Answer;
 use model::Balance;
 use model::Call;
 use report::ROOM;
-use river::AquiferFigures;
-use river::UnitFigures;
 
 // The lines of the first n units.
 fn unit_lines(out: &mut [u8; ROOM], at: usize, units: [UnitFigures; 64], n: usize) -> usize

@@ -16,7 +16,7 @@ use Rattle.model.specs.View.{View, termLimit}
 use Rattle.model.specs.Answers.{Refusal, none, number, refuse}
 use Rattle.titles.specs.Adds.{returned}
 use Rattle.river.specs.Flow.{Ready}
-use Rattle.river.specs.Figures.{WellsReady}
+use Rattle.figures.specs.Figures.{WellsReady}
 use Rattle.basin.specs.Sound.{exists, isVolume}
 use Rattle.basin.proofs.Soundness.{UnitSound, AquiferSound, Volume, TitleSound, Soundness, number-exists, is-volume, ready-of, wells-ready-of}
 use Rattle.effect.specs.Granted.{granted, raisedUnit, raisedAquifer, Named, Fits}

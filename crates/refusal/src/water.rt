@@ -3,7 +3,7 @@ ghost use mathlib.Core.Path.{_≡_};
 ghost use Prim.Native.Nat.{_≤_, _<_};
 ghost use Rattle.model.specs.View.{viewOf};
 ghost use Rattle.river.specs.Flow.{Ready};
-ghost use Rattle.river.specs.Figures.{WellsReady};
+ghost use Rattle.figures.specs.Figures.{WellsReady};
 ghost use Rattle.refusal.specs.Grant as grants;
 ghost use Rattle.effect.specs.Granted.{Named};
 ghost use Rattle.refusal.specs.Steps as steps;
@@ -47,7 +47,7 @@ fn drained(b: Balance, k: usize) -> bool
     ensures { λ r. ⌜ r ≡ grants.drained (viewOf b) k ⌝ }
 {
     let a = b.aquifers[k];
-    let w = river::of_aquifer(a);
+    let w = figures::of_aquifer(a);
     w.availability < 0
 }
 

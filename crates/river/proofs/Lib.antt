@@ -1,5 +1,4 @@
 pub mod Flows
 pub mod Reserves
-pub mod Aquifers
 pub mod Firsts
 pub mod Carried

@@ -11,17 +11,15 @@ use native.Mathlib.Numerals.{sub-one}
 use Rattle.laws.specs.Sum.{naturals, integers, sumOf, only}
 use Rattle.laws.specs.Gather.{arriving}
 use Rattle.laws.proofs.Cases.{by-eq}
-use lib.IntN.{ℤ, pos, _-ℤ_}
+use lib.IntN.{ℤ}
 use lib.Signed.{nonNeg}
-use Rattle.laws.proofs.Parts.{Less, less-monus, less-above, less-is, less-pos, less-plus, less-minus, less-equal, nonNeg-true}
-use Rattle.river.specs.declared.UnitFigures.{UnitFigures}
-use Rattle.river.specs.Figures.{unitFigures}
+use Rattle.laws.proofs.Parts.{Less, less-monus, less-above, less-plus, nonNeg-true}
 use Rattle.laws.proofs.Gathering.{sum-prefix, sum-monotone, related-arriving}
 use Rattle.laws.proofs.Splitting.{floor-le}
 use Rattle.model.specs.View.{View}
 use Rattle.river.specs.Flow.{downstream, flow, gain, loss, gathered, Ready}
-use Rattle.river.specs.Reserve.{contribution, runningTotal, total, demand, share, shareAbove, committedTo, committed, ownReserve}
-use Rattle.river.specs.Passes.{Splits, figuresFrom}
+use Rattle.river.specs.Reserve.{contribution, runningTotal, total, demand, share, shareAbove, committedTo, committed}
+use Rattle.river.specs.Passes.{Splits}
 use Rattle.river.proofs.Flows.{flow-is, flow-parts, net-parts, gathered-is, gathered-small}
 
 -- A unit contributes what it gathers less what it loses.
@@ -166,25 +164,3 @@ splits v r j h =
       asked = omega (arith, committed-small v r j h, r .losses j h);
       small = omega (arith, total-small v r j h);
     }
-
--- The figures of a unit from what is gained and lost at it and above it are those that the definitions give.
-figures-are : (v : View) (j : ℕ)
-    → figuresFrom (v .unit j) (gathered v false j) (gathered v true j) (runningTotal v j j) (committed v j) ≡ unitFigures v j
-figures-are v j = λ i.
-    record {
-      flow = sym (less-is (flow-parts v j)) i;
-      committed = committed v j;
-      reserve = ownReserve v j;
-      availability = available i;
-    }
-  where
-    available : pos (gathered v false j) -ℤ pos (gathered v true j + committed v j) ≡ flow v j -ℤ pos (committed v j)
-    available =
-        less-equal (less-minus (less-pos (gathered v false j)) (less-pos (gathered v true j + committed v j)))
-        (less-minus (flow-parts v j) (less-pos (committed v j))) (omega arith)
-
-pub figures-from : (v : View) (j g l a c : ℕ) (x : UnitFigures)
-    → g ≡ gathered v false j → l ≡ gathered v true j → a ≡ runningTotal v j j → c ≡ committed v j
-    → x ≡ figuresFrom (v .unit j) g l a c → x ≡ unitFigures v j
-figures-from v j g l a c x eg el ea ec e =
-    e ∙ (λ i. figuresFrom (v .unit j) (eg i) (el i) (ea i) (ec i)) ∙ figures-are v j

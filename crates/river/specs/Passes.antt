@@ -5,12 +5,10 @@ use mathlib.Core.Bool.{cond}
 use mathlib.Core.List.{List}
 use lib.Dec.{eqb}
 use lib.ListN.{length, getD}
-use lib.IntN.{pos, _-ℤ_}
 use Rattle.model.specs.declared.Unit.{Unit}
 use Rattle.model.specs.View.{View}
 use Rattle.river.specs.Flow.{downstream}
 use Rattle.river.specs.Reserve.{inflow, demand, share, runningTotal, committed}
-use Rattle.river.specs.declared.UnitFigures.{UnitFigures}
 
 -- The running total before a unit at its downstream unit; 0 for an outlet.
 abbrev pub runningBefore : View → ℕ → ℕ
@@ -44,13 +42,3 @@ fromBelow w committed arrived before own =
 abbrev pub fromOwn : Unit → ℕ → ℕ → ℕ
 fromOwn u committed arrived =
     cond (eqb (arrived + inflow u) 0) (demand u committed) (share (demand u committed) (arrived + inflow u) arrived (arrived + inflow u))
-
--- The figures of a unit from what is gained and lost at it and above it, what arrives there and what is committed.
-abbrev pub figuresFrom : Unit → ℕ → ℕ → ℕ → ℕ → UnitFigures
-figuresFrom u gained lost arrived committed =
-    record {
-      flow = pos gained -ℤ pos lost;
-      committed = committed;
-      reserve = fromOwn u committed arrived;
-      availability = pos gained -ℤ pos (lost + committed);
-    }

@@ -4,7 +4,7 @@ use mathlib.Core.Path.{_≡_}
 use lib.ListN.{getD}
 use native.Mathlib.Omega.{arith}
 use native.Mathlib.Numerals.{add-one}
-use Rattle.river.specs.Figures.{noUnitFigures}
+use Rattle.figures.specs.Figures.{noUnitFigures}
 use Rattle.text.specs.Text.{Written}
 use Rattle.text.proofs.Writing.{then, widen, restate, still}
 use Rattle.listing.specs.Listing.{linesOf, unitText}

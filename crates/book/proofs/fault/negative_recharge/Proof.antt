@@ -5,7 +5,7 @@ use lib.Dec.{ltb}
 use native.Mathlib.Omega.{arith}
 use Rattle.laws.specs.Signed.{above, below}
 use Rattle.laws.proofs.Parts.{above-read, below-read}
-use Rattle.river.proofs.Aquifers.{recharge-parts}
+use Rattle.figures.proofs.Aquifers.{recharge-parts}
 use Rattle.book.proofs.Faults.{less-negative}
 use borrow.Author.Needs.{needs}
 use Rattle.book.proofs.fault.negative_recharge.Statement.{statement}

@@ -7,7 +7,7 @@ use mir.Syntax.{w64}
 use mir.Val.{SFits}
 use native.Mathlib.Omega.{arith}
 use borrow.Author.Needs.{needs}
-use Rattle.river.specs.declared.AquiferFigures.{AquiferFigures}
+use Rattle.figures.specs.declared.AquiferFigures.{AquiferFigures}
 use Rattle.refusal.proofs.Negative.{negative-kept}
 use Rattle.refusal.proofs.water.drained.Statement.{statement}
 use Rattle.refusal.proofs.water.drained.Tie as tie

@@ -8,7 +8,7 @@ use Rattle.model.specs.declared.Answer.the-variants.{Accepted}
 use Rattle.model.specs.View.{View, viewOf}
 use Rattle.basin.proofs.Soundness.{soundness, sound-ready, sound-wells-ready}
 use Rattle.river.specs.Flow.{Ready}
-use Rattle.river.specs.Figures.{WellsReady}
+use Rattle.figures.specs.Figures.{WellsReady}
 use Rattle.effect.specs.Granted.{granted, Named}
 use Rattle.refusal.specs.Grant.{noWater}
 use Rattle.register.specs.declared.Reply.{Reply}

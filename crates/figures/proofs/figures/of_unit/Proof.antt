@@ -1,9 +1,9 @@
--- `river::of_unit` meets its contract. Assumes nothing.
+-- `figures::of_unit` meets its contract. Assumes nothing.
 use mathlib.Core.Path.{_∙_}
 use Rattle.laws.proofs.Signs.{whole-ok}
 use borrow.Author.Needs.{needs}
-use Rattle.river.proofs.figures.of_unit.Statement.{statement}
-use Rattle.river.proofs.figures.of_unit.Tie as tie
+use Rattle.figures.proofs.figures.of_unit.Statement.{statement}
+use Rattle.figures.proofs.figures.of_unit.Tie as tie
 
 difference-requires : tie.Need-difference-requires
 difference-requires c κs = search needs

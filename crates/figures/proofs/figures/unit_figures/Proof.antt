@@ -1,4 +1,4 @@
--- `river::unit_figures` meets its contract. Assumes nothing.
+-- `figures::unit_figures` meets its contract. Assumes nothing.
 use Prim.Native.Nat.{_≤_, _-_}
 use mathlib.Core.Path.{_≡_}
 use mathlib.Core.Bool.{true, false}
@@ -7,11 +7,12 @@ use native.Mathlib.Numerals.{add-one}
 use borrow.Author.Count.{falls}
 use Rattle.laws.proofs.Arrays.{Filled, filled-start, filled-put, filled-table}
 use Rattle.model.specs.View.{viewOf}
-use Rattle.river.specs.Figures.{unitFigures, noUnitFigures}
+use Rattle.figures.specs.Figures.{unitFigures, noUnitFigures}
 use Rattle.river.proofs.Flows.{gathered-small}
-use Rattle.river.proofs.Reserves.{splits, figures-from}
-use Rattle.river.proofs.figures.unit_figures.Statement.{statement}
-use Rattle.river.proofs.figures.unit_figures.Tie as tie
+use Rattle.river.proofs.Reserves.{splits}
+use Rattle.figures.proofs.Units.{figures-from}
+use Rattle.figures.proofs.figures.unit_figures.Statement.{statement}
+use Rattle.figures.proofs.figures.unit_figures.Tie as tie
 
 abbrev Inv-loop : tie.InvT-loop
 Inv-loop b n f volumes all₀ i₀ all i =

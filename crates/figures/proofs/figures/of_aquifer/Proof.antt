@@ -1,13 +1,13 @@
--- `river::of_aquifer` meets its contract. Assumes nothing.
+-- `figures::of_aquifer` meets its contract. Assumes nothing.
 use mathlib.Core.Path.{_≡_, _∙_}
 use native.Mathlib.Omega.{arith}
 use Rattle.laws.specs.Signed.{above, below}
 use Rattle.laws.proofs.Signs.{whole-ok}
 use Rattle.laws.proofs.Parts.{parts-fit, above-read, below-read}
-use Rattle.river.proofs.Aquifers.{recharge-is, available-is}
+use Rattle.figures.proofs.Aquifers.{recharge-is, available-is}
 use borrow.Author.Needs.{needs}
-use Rattle.river.proofs.figures.of_aquifer.Statement.{statement}
-use Rattle.river.proofs.figures.of_aquifer.Tie as tie
+use Rattle.figures.proofs.figures.of_aquifer.Statement.{statement}
+use Rattle.figures.proofs.figures.of_aquifer.Tie as tie
 
 above-requires : tie.Need-above-requires
 above-requires c κs = search needs

@@ -1,19 +1,20 @@
-// The figures of all units and aquifers of a balance.
+// The figures of each unit, by the passes over the tree, and of each aquifer.
 ghost use mathlib.Core.Path.{_≡_};
 ghost use Prim.Native.Nat.{_≤_};
 ghost use Rattle.laws.specs.Signed.{above, below};
 ghost use Rattle.model.specs.View.{viewOf};
 ghost use Rattle.river.specs.Flow.{Ready};
-ghost use Rattle.river.specs.Passes.{Splits, figuresFrom};
-ghost use Rattle.river.specs.Figures as figures;
+ghost use Rattle.river.specs.Passes.{Splits};
+ghost use Rattle.figures.specs.Figures as figures;
+ghost use Rattle.figures.specs.Figures.{figuresFrom};
 use crate::AquiferFigures;
 use crate::UnitFigures;
-use crate::flow::flow_amounts;
-use crate::reserve::committed;
-use crate::reserve::from_own;
 use model::Aquifer;
 use model::Balance;
 use model::Unit;
+use river::committed;
+use river::flow_amounts;
+use river::from_own;
 
 // A unit's figures from what it gathers, what arrives and what is committed.
 fn of_unit(u: Unit, gained: u64, lost: u64, arrived: u64, committed: u64) -> UnitFigures

@@ -1,4 +1,4 @@
--- `river::aquifer_figures` meets its contract. Assumes nothing.
+-- `figures::aquifer_figures` meets its contract. Assumes nothing.
 use Prim.Native.Nat.{_≤_, _-_}
 use mathlib.Core.Path.{_≡_}
 use native.Mathlib.Omega.{arith}
@@ -6,9 +6,9 @@ use native.Mathlib.Numerals.{add-one}
 use borrow.Author.Count.{falls}
 use Rattle.laws.proofs.Arrays.{Filled, filled-start, filled-put, filled-table}
 use Rattle.model.specs.View.{viewOf}
-use Rattle.river.specs.Figures.{aquiferFigures, noAquiferFigures}
-use Rattle.river.proofs.figures.aquifer_figures.Statement.{statement}
-use Rattle.river.proofs.figures.aquifer_figures.Tie as tie
+use Rattle.figures.specs.Figures.{aquiferFigures, noAquiferFigures}
+use Rattle.figures.proofs.figures.aquifer_figures.Statement.{statement}
+use Rattle.figures.proofs.figures.aquifer_figures.Tie as tie
 
 abbrev Inv-loop : tie.InvT-loop
 Inv-loop b n all₀ i₀ all i =

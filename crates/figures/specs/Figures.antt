@@ -1,15 +1,17 @@
 -- The figures of a unit and of an aquifer. Assumes nothing.
-use Prim.Native.Nat.{ℕ, _≤_, _<_}
-use lib.IntN.{pos}
+use Prim.Native.Nat.{ℕ, _+_, _≤_, _<_}
+use lib.IntN.{pos, _-ℤ_}
 use Rattle.laws.specs.Signed.{above, below}
 use Rattle.laws.specs.Table.{table}
 use Rattle.model.specs.declared.Aquifer.{Aquifer}
+use Rattle.model.specs.declared.Unit.{Unit}
 use Rattle.model.specs.View.{View}
 use Rattle.river.specs.Flow.{flow}
 use Rattle.river.specs.Reserve.{committed, ownReserve, availability}
+use Rattle.river.specs.Passes.{fromOwn}
 use Rattle.river.specs.Wells.{recharge, wellAvailability}
-use Rattle.river.specs.declared.UnitFigures.{UnitFigures}
-use Rattle.river.specs.declared.AquiferFigures.{AquiferFigures}
+use Rattle.figures.specs.declared.UnitFigures.{UnitFigures}
+use Rattle.figures.specs.declared.AquiferFigures.{AquiferFigures}
 use mathlib.Core.List.{List}
 
 -- The four figures of the unit at index j.
@@ -19,6 +21,16 @@ unitFigures v j =
 
 abbrev pub noUnitFigures : UnitFigures
 noUnitFigures = record { flow = pos 0; committed = 0; reserve = 0; availability = pos 0 }
+
+-- The figures of a unit from what is gained and lost at it and above it, what arrives there and what is committed.
+abbrev pub figuresFrom : Unit → ℕ → ℕ → ℕ → ℕ → UnitFigures
+figuresFrom u gained lost arrived committed =
+    record {
+      flow = pos gained -ℤ pos lost;
+      committed = committed;
+      reserve = fromOwn u committed arrived;
+      availability = pos gained -ℤ pos (lost + committed);
+    }
 
 -- The two figures of an aquifer, and of the aquifer at index j.
 abbrev pub figuresOf : Aquifer → AquiferFigures
