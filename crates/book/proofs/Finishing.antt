@@ -20,12 +20,12 @@ use Rattle.model.specs.Fresh.{emptyUnit, emptyAquifer}
 use Rattle.model.specs.View.{viewOf}
 use Rattle.river.specs.Flow.{downstream, flow, gain, loss}
 use Rattle.runoff.proofs.Rounding.{natural-within}
-use Rattle.book.specs.declared.UnitRecord.{UnitRecord}
-use Rattle.book.specs.Record.{unitOf, noUnit, isGauged}
-use Rattle.book.specs.Fault.{Closed, closingFault}
+use Rattle.record.specs.declared.UnitRecord.{UnitRecord}
+use Rattle.record.specs.Record.{unitOf, noUnit, isGauged}
+use Rattle.record.specs.Fault.{Closed, closingFault}
 use Rattle.book.specs.Reading.{Description, lastUnit, balanceOf, Outcome, read, faultAt, ended, openedAs}
 use Rattle.book.specs.Opening.{draft, missing, negative, unlessAt, testedWith, endedWith, Bounded, EndReady}
-use Rattle.book.proofs.Facts.{Fine, closing-clean}
+use Rattle.record.proofs.Clean.{Fine, closing-clean}
 use Rattle.book.proofs.Growing.{Good, all-closed, full-is}
 
 -- The first place of tests that agree is the same.

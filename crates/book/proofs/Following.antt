@@ -12,10 +12,10 @@ use Rattle.model.specs.declared.Unit.{Unit}
 use Rattle.model.specs.declared.Aquifer.{Aquifer}
 use Rattle.model.specs.declared.Balance.{Balance}
 use Rattle.model.specs.Fresh.{emptyUnit, emptyAquifer, emptyPlace, freshBalance}
-use Rattle.book.specs.declared.UnitRecord.{UnitRecord}
+use Rattle.record.specs.declared.UnitRecord.{UnitRecord}
 use Rattle.book.specs.declared.Next.{Next}
 use Rattle.book.specs.declared.Next.the-variants.{Ends, Refused, Opens, Grows, Adds}
-use Rattle.book.specs.Record.{unitOf, noUnit}
+use Rattle.record.specs.Record.{unitOf, noUnit}
 use Rattle.book.specs.Reading.{Description, lastUnit, withUnit, withLast, withAquifer, refused, ended, next, readingFrom, reading, openedAs, opened}
 use Rattle.book.specs.Opening.{putUnit, putAquifer, stored, draft, refusedWith, endedWith, EndReady}
 use Rattle.book.proofs.Facts.{Facts, OpensFacts, next-facts}

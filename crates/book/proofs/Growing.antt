@@ -13,12 +13,13 @@ use Rattle.model.specs.declared.Unit.{Unit}
 use Rattle.model.specs.declared.Aquifer.{Aquifer}
 use Rattle.model.specs.declared.Balance.{Balance}
 use Rattle.model.specs.Fresh.{emptyUnit, emptyAquifer}
-use Rattle.book.specs.declared.UnitRecord.{UnitRecord}
-use Rattle.book.specs.Record.{unitOf, noUnit}
-use Rattle.book.specs.Fault.{Sane, Closed, closingFault}
+use Rattle.record.specs.declared.UnitRecord.{UnitRecord}
+use Rattle.record.specs.Record.{unitOf, noUnit}
+use Rattle.record.specs.Fault.{Sane, Closed, closingFault}
 use Rattle.book.specs.Reading.{Description, lastUnit, withUnit, withLast, withAquifer, balanceOf}
 use Rattle.book.specs.Opening.{putAquifer, counted, stored, fullOf, draft}
-use Rattle.book.proofs.Facts.{Fine, WellFine, OpensFacts, GrowsFacts, AddsFacts, closing-clean}
+use Rattle.record.proofs.Clean.{Fine, WellFine, closing-clean}
+use Rattle.book.proofs.Facts.{OpensFacts, GrowsFacts, AddsFacts}
 
 -- One element more at the end of a list.
 module _ {A : Type 0} (xs : List A) (x d : A) where

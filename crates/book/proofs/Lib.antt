@@ -1,4 +1,3 @@
-pub mod Faults
 pub mod Steps
 pub mod Facts
 pub mod Growing
@@ -6,4 +5,3 @@ pub mod Ending
 pub mod Finishing
 pub mod Following
 pub mod Promises
-pub mod Means

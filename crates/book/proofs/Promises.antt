@@ -29,16 +29,17 @@ use Rattle.river.proofs.Firsts.{nothing-passed}
 use Rattle.runoff.proofs.Rounding.{natural-within}
 use Rattle.basin.specs.Sound.{sound}
 use Rattle.basin.proofs.Soundness.{UnitSound, AquiferSound, sound-of, fresh-sound}
-use Rattle.book.specs.declared.UnitRecord.{UnitRecord}
-use Rattle.book.specs.declared.Mark.{Mark}
-use Rattle.book.specs.declared.Mark.the-variants.{Un, Su, Pr, Af, Ac, Call, Unknown}
+use Rattle.record.specs.declared.UnitRecord.{UnitRecord}
+use Rattle.record.specs.declared.Mark.{Mark}
+use Rattle.record.specs.declared.Mark.the-variants.{Un, Su, Pr, Af, Ac, Call, Unknown}
 use Rattle.book.specs.declared.Next.{Next}
 use Rattle.book.specs.declared.Next.the-variants.{Ends, Refused, Opens, Grows, Adds}
-use Rattle.book.specs.Bytes.{bits8, bits16, bits32}
-use Rattle.book.specs.Record.{markOf, unitRecord, aquiferRecord, unitOf, noUnit, isGauged}
-use Rattle.book.specs.Fault.{Closed, closingFault, unitFault, soilFault, rainFault, gaugeFault, aquiferFault}
-use Rattle.book.specs.Reading.{Description, lastUnit, balanceOf, gaugeOutsideAt, marked, next, Outcome, read, refused, faultAt, ended, readingFrom, reading, openedAs, opened}
-use Rattle.book.proofs.Facts.{Facts, Fine, WellFine, next-facts, through-unless, through-whole}
+use Rattle.record.specs.Bytes.{bits8, bits16, bits32}
+use Rattle.record.specs.Record.{markOf, unitRecord, aquiferRecord, unitOf, noUnit, isGauged}
+use Rattle.record.specs.Fault.{Closed, closingFault, unitFault, soilFault, rainFault, gaugeFault, aquiferFault, gaugeOutsideAt}
+use Rattle.book.specs.Reading.{Description, lastUnit, balanceOf, marked, next, Outcome, read, refused, faultAt, ended, readingFrom, reading, openedAs, opened}
+use Rattle.record.proofs.Clean.{Fine, WellFine}
+use Rattle.book.proofs.Facts.{Facts, next-facts, through-unless, through-whole}
 use Rattle.book.proofs.Growing.{Good, good-start, good-unit, good-last, good-aquifer, all-closed}
 use Rattle.book.proofs.Finishing.{unit-at, well-at}
 use Rattle.book.proofs.Following.{from-ends, from-refused, from-opens, from-grows, from-adds}

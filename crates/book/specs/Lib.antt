@@ -1,7 +1,3 @@
--- The book: its records, the refusals of reading, and what opening gives.
-pub mod Bytes
-pub mod Record
-pub mod Fault
+-- The book: reading its description, and what opening gives.
 pub mod Reading
 pub mod Opening
-pub mod Calls

@@ -17,10 +17,10 @@ use Rattle.model.specs.Fresh.{emptyUnit, emptyAquifer, emptyPlace, freshBalance
 use Rattle.model.specs.View.{View, viewOf}
 use Rattle.model.specs.Answers.{first}
 use Rattle.river.specs.Flow.{downstream, flow, gain, loss}
-use Rattle.book.specs.declared.UnitRecord.{UnitRecord}
+use Rattle.record.specs.declared.UnitRecord.{UnitRecord}
 use Rattle.book.specs.declared.Opened.{Opened}
-use Rattle.book.specs.Record.{unitOf, noUnit}
-use Rattle.book.specs.Fault.{Sane, Closed, closingFault}
+use Rattle.record.specs.Record.{unitOf, noUnit}
+use Rattle.record.specs.Fault.{Sane, Closed, closingFault}
 use Rattle.book.specs.Reading.{Description}
 
 -- The balance with a unit, or an aquifer, put at an index.

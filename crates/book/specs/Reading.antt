@@ -1,6 +1,6 @@
 -- Reading a description, record by record, and opening it (document 01, "What each operation refuses"). Assumes nothing.
 use Prim.Native.Nat.{ℕ, zero, suc, _+_, _-_}
-use mathlib.Core.Bool.{Bool, cond, not}
+use mathlib.Core.Bool.{cond, not}
 use mathlib.Core.List.{List, [], _∷_, _++_}
 use lib.Dec.{eqb, ltb}
 use lib.ListN.{length, getD, set, replicate}
@@ -14,15 +14,15 @@ use Rattle.model.specs.Fresh.{emptyUnit, emptyAquifer, emptyPlace, freshBalance
 use Rattle.model.specs.View.{viewOf}
 use Rattle.model.specs.Answers.{none, number, answered, first}
 use Rattle.river.specs.Flow.{flow}
-use Rattle.book.specs.declared.UnitRecord.{UnitRecord}
-use Rattle.book.specs.declared.Mark.{Mark}
-use Rattle.book.specs.declared.Mark.the-variants.{Un, Su, Pr, Af, Ac, Call, Unknown}
+use Rattle.record.specs.declared.UnitRecord.{UnitRecord}
+use Rattle.record.specs.declared.Mark.{Mark}
+use Rattle.record.specs.declared.Mark.the-variants.{Un, Su, Pr, Af, Ac, Call, Unknown}
 use Rattle.book.specs.declared.Next.{Next}
 use Rattle.book.specs.declared.Next.the-variants.{Ends, Refused, Opens, Grows, Adds}
 use Rattle.book.specs.declared.Opened.{Opened}
-use Rattle.book.specs.Bytes.{bits8, bits16, bits32, signedBits32}
-use Rattle.book.specs.Record.{markOf, unitRecord, withSoil, withYear, rainOf, gaugeOf, aquiferRecord, unitOf, noUnit}
-use Rattle.book.specs.Fault.{closingFault, unitFault, soilFault, rainFault, gaugeOutside, gaugeFault, aquiferFault}
+use Rattle.record.specs.Bytes.{bits8, bits16, bits32}
+use Rattle.record.specs.Record.{markOf, unitRecord, withSoil, withYear, rainOf, gaugeOf, aquiferRecord, unitOf, noUnit}
+use Rattle.record.specs.Fault.{closingFault, unitFault, soilFault, rainFault, gaugeOutsideAt, gaugeFault, aquiferFault}
 
 -- What a record does, once its bytes are there: it is refused under its fault, or goes on.
 abbrev pub unless : ℕ → ℕ → Next → Next
@@ -55,11 +55,6 @@ rainStep s at u units aquifers =
     (Grows (withYear u (rainOf u (bits16 s (at + 2)))) (at + 4)))
 
 -- AF: 34 bytes.
-abbrev pub gaugeOutsideAt : List ℕ → ℕ → Bool
-gaugeOutsideAt s at =
-    gaugeOutside (bits32 s (at + 2)) (bits32 s (at + 6)) (bits32 s (at + 10)) (bits32 s (at + 14)) (bits32 s (at + 18))
-    (bits32 s (at + 22)) (bits32 s (at + 26)) (signedBits32 s (at + 30))
-
 abbrev pub gaugeStep : List ℕ → ℕ → UnitRecord → ℕ → ℕ → Next
 gaugeStep s at u units aquifers =
     whole s at 34

@@ -2,20 +2,19 @@
 ghost use mathlib.Core.Path.{_≡_};
 ghost use Prim.Native.Nat.{_≤_, _<_};
 ghost use Rattle.model.specs.View.{viewOf};
-ghost use Rattle.book.specs.Record as records;
-ghost use Rattle.book.specs.Fault.{Closed};
+ghost use Rattle.record.specs.Record as records;
+ghost use Rattle.record.specs.Fault.{Closed};
 ghost use Rattle.book.specs.Reading as reading;
 ghost use Rattle.book.specs.Opening as opening;
 use crate::Next;
 use crate::Opened;
-use crate::UnitRecord;
-use crate::fault::closing_fault;
-use crate::record::unit_of;
 use crate::step::next;
 use model::Answer;
-use model::Aquifer;
 use model::Balance;
 use model::Found;
+use record::UnitRecord;
+use record::closing_fault;
+use record::unit_of;
 
 // A refused opening hands back the fresh balance.
 pub fn refused(number: u8, place: usize) -> Opened

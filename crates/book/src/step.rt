@@ -1,31 +1,28 @@
 // One record of a description: what it does.
 ghost use mathlib.Core.Path.{_≡_};
 ghost use Prim.Native.Nat.{_+_, _≤_};
-ghost use mathlib.Core.Bool.{false};
 ghost use lib.ListN.{length};
-ghost use Rattle.book.specs.Fault.{Sane};
-ghost use Rattle.book.specs.Record as records;
+ghost use Rattle.record.specs.Fault.{Sane};
 ghost use Rattle.book.specs.Reading as reading;
-use crate::Mark;
 use crate::Next;
-use crate::UnitRecord;
-use crate::bytes::bits8;
-use crate::bytes::bits16;
-use crate::bytes::bits32;
-use crate::bytes::signed_bits32;
-use crate::fault::aquifer_fault;
-use crate::fault::closing_fault;
-use crate::fault::gauge_fault;
-use crate::fault::gauge_outside;
-use crate::fault::rain_fault;
-use crate::fault::soil_fault;
-use crate::fault::terms_outside;
-use crate::fault::unit_fault;
-use crate::record::aquifer_record;
-use crate::record::mark_of;
-use crate::record::unit_record;
-use crate::record::with_soil;
-use crate::record::with_year;
+use record::Mark;
+use record::UnitRecord;
+use record::aquifer_fault;
+use record::aquifer_record;
+use record::bits8;
+use record::bits16;
+use record::bits32;
+use record::closing_fault;
+use record::gauge_fault;
+use record::mark_of;
+use record::outside_at;
+use record::rain_fault;
+use record::soil_fault;
+use record::unit_fault;
+use record::unit_record;
+use record::with_soil;
+use record::with_year;
+use record::year_at;
 
 // A UN closes the open unit, then is refused or opens the next.
 fn unit_step(s: &[u8], at: usize, u: UnitRecord, units: usize, aquifers: usize) -> Next
@@ -111,51 +108,6 @@ fn rain_step(s: &[u8], at: usize, u: UnitRecord, units: usize, aquifers: usize) 
         unit: with_year(u, laws::difference(year, 0)),
         to: at + 4,
     }
-}
-
-// A field of the AF at an offset is outside its values.
-fn outside_at(s: &[u8], at: usize) -> bool
-    requires { ⌜ at + 34 ≤ length (now s) ⌝ }
-    ensures { λ r. ⌜ r ≡ reading.gaugeOutsideAt (now (s .entry)) at ⌝ }
-{
-    let extraction = bits32(s, at + 10);
-    let exports = bits32(s, at + 14);
-    let imports = bits32(s, at + 18);
-    let returns = bits32(s, at + 22);
-    let evaporation = bits32(s, at + 26);
-    let terms = terms_outside(extraction, exports, imports, returns, evaporation);
-    gauge_outside(
-        bits32(s, at + 2),
-        bits32(s, at + 6),
-        terms,
-        signed_bits32(s, at + 30),
-    )
-}
-
-// The year of the AF at an offset.
-fn year_at(s: &[u8], at: usize) -> i64
-    requires { ⌜ at + 34 ≤ length (now s) ⌝ }
-    requires { ⌜ reading.gaugeOutsideAt (now s) at ≡ false ⌝ }
-    ensures { λ r. ⌜ r ≡ records.gaugeOf (now (s .entry)) at ⌝ }
-{
-    let outflow = bits32(s, at + 2);
-    let inflow = bits32(s, at + 6);
-    let extraction = bits32(s, at + 10);
-    let exports = bits32(s, at + 14);
-    let imports = bits32(s, at + 18);
-    let returns = bits32(s, at + 22);
-    let evaporation = bits32(s, at + 26);
-    let storage = signed_bits32(s, at + 30);
-    runoff::gauged_year(
-        outflow,
-        inflow,
-        extraction,
-        exports,
-        imports,
-        returns,
-        evaporation,
-        storage,
-    )
 }
 
 // An AF belongs to the open unit.

@@ -7,12 +7,12 @@ use native.Mathlib.Omega.{arith}
 use borrow.Author.Tests.{eq-eqb, ne-eqb, lt-ltb, le-ltb}
 use Rattle.laws.proofs.Cases.{by-eq, by-lt}
 use Rattle.model.specs.declared.Call.{Call}
-use Rattle.book.specs.declared.CallMark.{CallMark}
-use Rattle.book.specs.declared.CallMark.the-variants.{Gu, Ga, Tu, Ta, Ca, None}
-use Rattle.book.specs.declared.CallAt.{CallAt}
-use Rattle.book.specs.declared.CallAt.the-variants.{End, Fails, Asks}
-use Rattle.book.specs.Bytes.{bits8}
-use Rattle.book.specs.Calls.{callMark, wholeCall, callMarked, callAt, Ending, callsFrom, endingFrom, callsOf, endingOf}
+use Rattle.record.specs.declared.CallMark.{CallMark}
+use Rattle.record.specs.declared.CallMark.the-variants.{Gu, Ga, Tu, Ta, Ca, None}
+use Rattle.record.specs.declared.CallAt.{CallAt}
+use Rattle.record.specs.declared.CallAt.the-variants.{End, Fails, Asks}
+use Rattle.record.specs.Bytes.{bits8}
+use Rattle.record.specs.Calls.{callMark, wholeCall, callMarked, callAt, Ending, callsFrom, endingFrom, callsOf, endingOf}
 
 abbrev Onward : List ℕ → ℕ → CallAt → Type 0
 Onward s at End = Unit {0}

@@ -6,8 +6,8 @@ use native.Mathlib.Numerals.{sub-one}
 use native.Mathlib.Omega.{arith}
 use Rattle.model.specs.declared.Call.{Call}
 use Rattle.model.specs.declared.Balance.{Balance}
-use Rattle.book.specs.declared.CallAt.the-variants.{End, Fails, Asks}
-use Rattle.book.specs.Calls.{callAt, Ending, finished, failed, callsFrom, endingFrom, callsOf, endingOf}
+use Rattle.record.specs.declared.CallAt.the-variants.{End, Fails, Asks}
+use Rattle.record.specs.Calls.{callAt, Ending, finished, failed, callsFrom, endingFrom, callsOf, endingOf}
 use Rattle.register.specs.Calls.{callReply, after}
 use Rattle.calls.specs.declared.Ran.{Ran}
 use Rattle.calls.specs.Running.{ranAs, ran}

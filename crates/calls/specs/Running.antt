@@ -3,7 +3,7 @@ use Prim.Native.Nat.{ℕ}
 use mathlib.Core.List.{List}
 use Rattle.model.specs.declared.Answer.the-variants.{Accepted, Refused}
 use Rattle.model.specs.declared.Balance.{Balance}
-use Rattle.book.specs.Calls.{Ending, finished, failed, callsOf, endingOf}
+use Rattle.record.specs.Calls.{Ending, finished, failed, callsOf, endingOf}
 use Rattle.register.specs.Calls.{after}
 use Rattle.calls.specs.declared.Ran.{Ran}
 

@@ -1,10 +1,10 @@
 // The calls of a book, run over a balance one after the other.
 ghost use mathlib.Core.Path.{_≡_};
-ghost use Rattle.book.specs.Calls as ends;
+ghost use Rattle.record.specs.Calls as ends;
 ghost use Rattle.calls.specs.Running as running;
-use book::CallAt;
 use model::Answer;
 use model::Balance;
+use record::CallAt;
 
 // What running the calls of a book gives: accepted, or the number and place of the record that fails with 1 or 2, and the balance after
 // the calls before it.
@@ -24,7 +24,7 @@ pub fn run(s: &[u8], from: usize, balance: Balance) -> Ran
     let mut left = s.len() + 1;
     while 0 < left {
         left -= 1;
-        match book::call_at(s, at) {
+        match record::call_at(s, at) {
             CallAt::End => {
                 return finished(b);
             }

@@ -28,7 +28,7 @@ use Rattle.basin.specs.Sound.{sound}
 use Rattle.reach.specs.Reach.{outletTo, outlet}
 use Rattle.book.specs.declared.Opened.{Opened}
 use Rattle.book.specs.Reading.{next, readingFrom, opened}
-use Rattle.book.specs.Calls.{finished, callAt, callsFrom, callsOf, endingFrom, endingOf}
+use Rattle.record.specs.Calls.{finished, callAt, callsFrom, callsOf, endingFrom, endingOf}
 use Rattle.book.proofs.Promises.{opening-sound}
 use Rattle.effect.specs.Granted.{granted}
 use Rattle.refusal.specs.Grant.{noWater}

@@ -28,7 +28,7 @@ use Rattle.basin.specs.declared.Figures.{Figures}
 use Rattle.basin.proofs.Replies.{accepted-reply}
 use Rattle.book.specs.declared.Opened.{Opened}
 use Rattle.book.specs.Reading.{opened}
-use Rattle.book.specs.Calls.{callsOf}
+use Rattle.record.specs.Calls.{callsOf}
 use Rattle.register.specs.Calls.{after}
 use Rattle.text.specs.Text.{ascii}
 use Rattle.listing.specs.Listing.{printed}

@@ -14,7 +14,7 @@ use Rattle.model.specs.View.{viewOf}
 use Rattle.river.specs.Flow.{flow}
 use Rattle.river.specs.Reserve.{committedTo, committed}
 use Rattle.book.specs.declared.Opened.{Opened}
-use Rattle.book.specs.Calls.{finished}
+use Rattle.record.specs.Calls.{finished}
 use Rattle.register.specs.declared.Reply.{Reply}
 use Rattle.register.specs.Reply.{grantReply}
 use Rattle.register.specs.Calls.{after}

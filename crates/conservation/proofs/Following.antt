@@ -26,7 +26,7 @@ use Rattle.titles.specs.Adds.{adds, placeAdds}
 use Rattle.titles.proofs.Adding.{places-none, place-granted}
 use Rattle.basin.specs.Sound.{sound, flowing}
 use Rattle.basin.proofs.Soundness.{soundness}
-use Rattle.book.specs.Record.{unitOf, noUnit}
+use Rattle.record.specs.Record.{unitOf, noUnit}
 use Rattle.book.specs.Reading.{Description, balanceOf, read, reading, opened}
 use Rattle.book.proofs.Promises.{opening-sound, accepted-exactly}
 use Rattle.register.specs.declared.Reply.{Reply}

@@ -24,8 +24,8 @@ use Rattle.basin.specs.Figures.{figuresReply}
 use Rattle.basin.specs.Sound.{sound}
 use Rattle.basin.proofs.Soundness.{Soundness, soundness, ready-of}
 use Rattle.basin.proofs.Replies.{accepted-reply}
-use Rattle.book.specs.Record.{noUnit, isGauged}
-use Rattle.book.specs.Fault.{Closed}
+use Rattle.record.specs.Record.{noUnit, isGauged}
+use Rattle.record.specs.Fault.{Closed}
 use Rattle.book.specs.Reading.{Description, read, reading, opened}
 use Rattle.book.proofs.Promises.{units-closed}
 use Rattle.conservation.specs.Demand3.{Tally, start, baseUnit, added, unitEntries, entries, tallied, overUnits, brought, scale, exactMean, times, exactFlow, apart, flowOf, atOrAbove, reported, Demand3, HoldsAlways}

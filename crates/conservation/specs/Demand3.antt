@@ -31,8 +31,8 @@ use Rattle.river.specs.Figures.{noUnitFigures, allUnitFigures, allAquiferFigure
 use Rattle.basin.specs.declared.Figures.{Figures}
 use Rattle.basin.specs.Figures.{figuresReply}
 use Rattle.reach.specs.Reach.{liesBelow}
-use Rattle.book.specs.declared.UnitRecord.{UnitRecord}
-use Rattle.book.specs.Record.{unitOf, noUnit, isGauged}
+use Rattle.record.specs.declared.UnitRecord.{UnitRecord}
+use Rattle.record.specs.Record.{unitOf, noUnit, isGauged}
 use Rattle.book.specs.Reading.{Description}
 use Rattle.register.specs.Calls.{callRefusal, after}
 

@@ -7,8 +7,8 @@ use native.Mathlib.Numerals.{add-one, sub-one}
 use native.Mathlib.Omega.{arith}
 use Rattle.model.specs.declared.Call.{Call}
 use Rattle.model.specs.declared.Balance.{Balance}
-use Rattle.book.specs.declared.CallAt.the-variants.{End, Fails, Asks}
-use Rattle.book.specs.Calls.{callAt, finished, failed, callsFrom, callsOf}
+use Rattle.record.specs.declared.CallAt.the-variants.{End, Fails, Asks}
+use Rattle.record.specs.Calls.{callAt, finished, failed, callsFrom, callsOf}
 use Rattle.register.specs.Calls.{callReply}
 use Rattle.register.specs.declared.Reply.{Reply}
 use Rattle.calls.specs.declared.Ran.{Ran}

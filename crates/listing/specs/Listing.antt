@@ -15,7 +15,7 @@ use Rattle.river.specs.declared.AquiferFigures.{AquiferFigures}
 use Rattle.river.specs.Figures.{unitFigures, aquiferFigures}
 use Rattle.basin.specs.Sound.{sound}
 use Rattle.book.specs.Reading.{opened}
-use Rattle.book.specs.Calls.{callsOf}
+use Rattle.record.specs.Calls.{callsOf}
 use Rattle.register.specs.Calls.{callReply}
 use Rattle.calls.specs.declared.Ran.{Ran}
 use Rattle.calls.specs.Running.{ran}

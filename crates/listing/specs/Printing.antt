@@ -3,7 +3,7 @@ use Prim.Native.Nat.{ℕ}
 use mathlib.Core.Path.{_≡_}
 use mathlib.Core.List.{List}
 use Rattle.model.specs.declared.Balance.{Balance}
-use Rattle.book.specs.Calls.{callsOf}
+use Rattle.record.specs.Calls.{callsOf}
 use Rattle.calls.specs.Running.{ran}
 use Rattle.text.specs.Text.{Written}
 use Rattle.listing.specs.Listing.{callLines}

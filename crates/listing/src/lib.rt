@@ -9,11 +9,11 @@ ghost use Rattle.text.specs.Text.{Written};
 ghost use Rattle.listing.specs.Listing as text;
 ghost use Rattle.listing.specs.Printing as printing;
 use basin::reply::figures;
-use book::CallAt;
 use calls::Ran;
 use model::Answer;
 use model::Balance;
 use model::Call;
+use record::CallAt;
 use report::ROOM;
 use river::AquiferFigures;
 use river::UnitFigures;
@@ -144,7 +144,7 @@ fn call_lines(s: &[u8], from: usize, balance: Balance, out: &mut [u8; ROOM]) -> 
     let mut left = s.len() + 1;
     while 0 < left {
         left -= 1;
-        match book::call_at(s, at) {
+        match record::call_at(s, at) {
             CallAt::End => {
                 return Lines {
                     next: p,

@@ -5,7 +5,7 @@ use borrow.Author.Tests.{eq-eqb, ne-eqb}
 use Rattle.laws.proofs.Chain.{hit, miss}
 use Rattle.laws.proofs.Signs.{whole}
 use Rattle.laws.proofs.Parts.{parts-fit}
-use Rattle.book.specs.Fault.{closingBy, closingFault}
+use Rattle.record.specs.Fault.{closingBy, closingFault}
 use Rattle.book.specs.Opening.{refusedWith}
 use borrow.Author.Needs.{needs}
 use Rattle.book.proofs.opening.ended.Statement.{statement}

@@ -5,7 +5,7 @@ use mathlib.Core.Path.{_≡_, sym, _∙_}
 use native.Mathlib.Omega.{arith}
 use borrow.Author.Needs.{needs}
 use borrow.Author.Count.{falls-down}
-use Rattle.book.proofs.Facts.{closing-clean}
+use Rattle.record.proofs.Clean.{closing-clean}
 use Rattle.book.proofs.Following.{Reached, reached-start, reached-ends, reached-refused, opens-facts, reached-first, reached-next, reached-grows, adds-room, reached-adds, reached-over, reached-ready}
 use Rattle.book.proofs.opening.read_book.Statement.{statement}
 use Rattle.book.proofs.opening.read_book.Tie as tie

@@ -5,15 +5,14 @@ use mathlib.Core.Bool.{false}
 use native.Mathlib.Omega.{arith}
 use Rattle.laws.proofs.Signs.{whole-ok}
 use Rattle.book.specs.declared.Next.the-variants.{Grows}
-use Rattle.book.specs.Fault as faults
-use Rattle.book.specs.Record.{withYear}
-use Rattle.book.specs.Reading.{gaugeOutsideAt}
+use Rattle.record.specs.Fault as faults
+use Rattle.record.specs.Record.{withYear}
+use Rattle.record.specs.Fault.{gaugeOutsideAt}
 use Rattle.book.proofs.Steps.{is-short, is-whole, is-faulty, is-clean}
-use Rattle.book.proofs.Faults.{gauge-clean, range-at}
+use Rattle.record.proofs.Faults.{gauge-clean, range-at}
 use borrow.Author.Needs.{needs}
 use Rattle.book.proofs.step.gauge_step.Statement.{statement}
 use Rattle.book.proofs.step.gauge_step.Tie as tie
-use Rattle.book.proofs.step.gauge_step.Lts as lts
 
 sub-if1 : tie.Need-sub-if1
 sub-if1 c = search needs

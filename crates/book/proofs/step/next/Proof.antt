@@ -1,6 +1,6 @@
 -- `book::next` meets its contract. Assumes nothing.
 use mathlib.Core.Path.{refl, sym, _∙_}
-use Rattle.book.specs.declared.Mark.the-variants.{Un, Su, Pr, Af, Ac, Call, Unknown}
+use Rattle.record.specs.declared.Mark.the-variants.{Un, Su, Pr, Af, Ac, Call, Unknown}
 use Rattle.book.proofs.Steps.{next-ends, next-lone, next-marked}
 use borrow.Author.Needs.{needs}
 use Rattle.book.proofs.step.next.Statement.{statement}

@@ -1,24 +1,22 @@
 -- `book::rain_step` meets its contract. Assumes nothing.
 use mir.Syntax.{w64}
 use mir.Val.{toZ, ofZ}
-use Rattle.runoff.specs.Year.{RainRange}
+use Rattle.runoff.specs.Year.{RainRange, rainYear}
 use Prim.Native.Nat.{_+_}
 use mathlib.Core.Path.{_≡_, sym, ap, _∙_}
 use lib.IntN.{pos}
 use native.Mathlib.Omega.{arith}
 use Rattle.laws.proofs.Signs.{whole-ok}
 use Rattle.book.specs.declared.Next.the-variants.{Grows}
-use Rattle.book.specs.Bytes.{bits16}
-use Rattle.book.specs.Fault as faults
-use Rattle.book.specs.Record.{withYear, rainOf}
+use Rattle.record.specs.Bytes.{bits16}
+use Rattle.record.specs.Fault as faults
+use Rattle.record.specs.Record.{withYear, rainOf}
 use Rattle.book.proofs.Steps.{is-short, is-whole, is-faulty, is-clean}
-use Rattle.book.proofs.Faults.{rain-clean}
-use Rattle.runoff.specs.Year.{rainYear}
+use Rattle.record.proofs.Faults.{rain-clean}
 use Rattle.runoff.proofs.Rain.{rain-within}
 use borrow.Author.Needs.{needs}
 use Rattle.book.proofs.step.rain_step.Statement.{statement}
 use Rattle.book.proofs.step.rain_step.Tie as tie
-use Rattle.book.proofs.step.rain_step.Lts as lts
 
 sub-if1 : tie.Need-sub-if1
 sub-if1 c = search needs

@@ -2,15 +2,14 @@
 use Prim.Native.Nat.{_+_}
 use mathlib.Core.Path.{_≡_, sym, _∙_}
 use Rattle.book.specs.declared.Next.the-variants.{Grows}
-use Rattle.book.specs.Bytes.{bits8, bits32}
-use Rattle.book.specs.Fault as faults
+use Rattle.record.specs.Bytes.{bits8, bits32}
+use Rattle.record.specs.Fault as faults
 use Rattle.book.proofs.Steps.{is-short, is-whole, is-faulty, is-clean}
-use Rattle.book.proofs.Faults.{SoilClean, soil-clean}
-use Rattle.book.specs.Record.{withSoil}
+use Rattle.record.proofs.Faults.{SoilClean, soil-clean}
+use Rattle.record.specs.Record.{withSoil}
 use borrow.Author.Needs.{needs}
 use Rattle.book.proofs.step.soil_step.Statement.{statement}
 use Rattle.book.proofs.step.soil_step.Tie as tie
-use Rattle.book.proofs.step.soil_step.Lts as lts
 
 sub-if1 : tie.Need-sub-if1
 sub-if1 c = search needs

@@ -5,12 +5,11 @@ use native.Mathlib.Omega.{arith}
 use Rattle.laws.proofs.Signs.{whole as whole-bits}
 use Rattle.laws.proofs.Parts.{parts-fit}
 use Rattle.book.specs.declared.Next.the-variants.{Opens}
-use Rattle.book.specs.Fault as faults
+use Rattle.record.specs.Fault as faults
 use Rattle.book.proofs.Steps.{is-short, is-whole, is-faulty, is-clean}
 use borrow.Author.Needs.{needs}
 use Rattle.book.proofs.step.unit_step.Statement.{statement}
 use Rattle.book.proofs.step.unit_step.Tie as tie
-use Rattle.book.proofs.step.unit_step.Lts as lts
 
 sub-if1 : tie.Need-sub-if1
 sub-if1 c = search needs

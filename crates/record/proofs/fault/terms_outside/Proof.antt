@@ -1,0 +1,22 @@
+-- `record::terms_outside` meets its contract. Assumes nothing.
+use Rattle.laws.proofs.Chain.{disjunction}
+use Rattle.record.proofs.fault.terms_outside.Statement.{statement}
+use Rattle.record.proofs.fault.terms_outside.Tie as tie
+
+returns : tie.Need-returns
+returns c = search disjunction depth 16
+
+returns-2 : tie.Need-returns-2
+returns-2 c = search disjunction depth 16
+
+returns-3 : tie.Need-returns-3
+returns-3 c = search disjunction depth 16
+
+returns-4 : tie.Need-returns-4
+returns-4 c = search disjunction depth 16
+
+returns-5 : tie.Need-returns-5
+returns-5 c = search disjunction depth 16
+
+pub terms-outside-spec : {M : Type 1} → statement M
+terms-outside-spec = tie.close (tie.spec returns returns-2 returns-3 returns-4 returns-5)

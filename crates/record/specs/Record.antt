@@ -1,0 +1,155 @@
+-- The records of a description (document 01, "The book"). Assumes nothing.
+use Prim.Native.Nat.{ℕ, _+_}
+use mathlib.Core.Bool.{Bool, cond, _&&_, _||_}
+use mathlib.Core.List.{List}
+use lib.Dec.{eqb}
+use lib.IntN.{ℤ, pos, _+ℤ_}
+use Rattle.runoff.specs.Soil.{weighted}
+use Rattle.runoff.specs.Year.{rainYear, gaugedYear}
+use Rattle.runoff.specs.Mean.{naturalRunoff}
+use Rattle.model.specs.declared.Unit.{Unit}
+use Rattle.model.specs.declared.Aquifer.{Aquifer}
+use Rattle.record.specs.declared.UnitRecord.{UnitRecord}
+use Rattle.record.specs.declared.Mark.{Mark}
+use Rattle.record.specs.declared.Mark.the-variants.{Un, Su, Pr, Af, Ac, Call, Unknown}
+use Rattle.record.specs.Bytes.{bits8, bits32, signedBits32}
+
+-- The two letters stand at the two bytes.
+abbrev pub spells : ℕ → ℕ → ℕ → ℕ → Bool
+spells a b x y = eqb a x && eqb b y
+
+-- The marks of the calls, in ASCII: GU, GA, TU, TA, CA.
+abbrev pub isCall : ℕ → ℕ → Bool
+isCall a b = spells a b 71 85 || (spells a b 71 65 || (spells a b 84 85 || (spells a b 84 65 || spells a b 67 65)))
+
+-- The marks: UN, SU, PR, AF and AC of a description, and those of the calls.
+abbrev pub markOf : ℕ → ℕ → Mark
+markOf a b =
+    cond (spells a b 85 78) Un
+    (cond (spells a b 83 85) Su
+    (cond (spells a b 80 82) Pr
+    (cond (spells a b 65 70) Af
+    (cond (spells a b 65 67) Ac
+    (cond (isCall a b) Call
+    Unknown)))))
+
+-- A UN record at an offset: downstream unit (8 bits), then 32 bits each: extraction, exports, imports, returns, evaporation,
+-- storage change (signed), outlet commitment. It begins with no soil and no years.
+abbrev pub unitRecord : List ℕ → ℕ → UnitRecord
+unitRecord s i =
+    record {
+      at = i;
+      downstream = bits8 s (i + 2);
+      extraction = bits32 s (i + 3);
+      exports = bits32 s (i + 7);
+      imports = bits32 s (i + 11);
+      returns = bits32 s (i + 15);
+      evaporation = bits32 s (i + 19);
+      storage = signedBits32 s (i + 23);
+      commitment = bits32 s (i + 27);
+      soils = 0;
+      hectares = 0;
+      weighted = 0;
+      years = 0;
+      sum = pos 0;
+    }
+
+-- An SU record: cover and soil (8 bits each), hectares (32 bits). The unit with it in.
+abbrev pub withSoil : UnitRecord → ℕ → ℕ → ℕ → UnitRecord
+withSoil u cover soil hectares =
+    record {
+      at = u .at;
+      downstream = u .downstream;
+      extraction = u .extraction;
+      exports = u .exports;
+      imports = u .imports;
+      returns = u .returns;
+      evaporation = u .evaporation;
+      storage = u .storage;
+      commitment = u .commitment;
+      soils = u .soils + 1;
+      hectares = u .hectares + hectares;
+      weighted = u .weighted + weighted cover soil hectares;
+      years = u .years;
+      sum = u .sum;
+    }
+
+-- The unit with one year more, of so much water.
+abbrev pub withYear : UnitRecord → ℤ → UnitRecord
+withYear u year =
+    record {
+      at = u .at;
+      downstream = u .downstream;
+      extraction = u .extraction;
+      exports = u .exports;
+      imports = u .imports;
+      returns = u .returns;
+      evaporation = u .evaporation;
+      storage = u .storage;
+      commitment = u .commitment;
+      soils = u .soils;
+      hectares = u .hectares;
+      weighted = u .weighted;
+      years = u .years + 1;
+      sum = u .sum +ℤ year;
+    }
+
+-- A PR record, one year's rain (16 bits): a rain year on the unit's hectares and weighted hectares.
+abbrev pub rainOf : UnitRecord → ℕ → ℤ
+rainOf u mm = pos (rainYear (u .hectares) (u .weighted) mm)
+
+-- An AF record, one gauged year, 32 bits each: outflow, inflow, extraction, exports, imports, returns, evaporation, storage change (signed).
+abbrev pub gaugeOf : List ℕ → ℕ → ℤ
+gaugeOf s i =
+    gaugedYear (bits32 s (i + 2)) (bits32 s (i + 6)) (bits32 s (i + 10)) (bits32 s (i + 14)) (bits32 s (i + 18)) (bits32 s (i + 22))
+    (bits32 s (i + 26)) (signedBits32 s (i + 30))
+
+-- An AC record, 32 bits each: storage change (signed), natural discharge, pumped discharge, committed natural discharge, extraction already titled.
+abbrev pub aquiferRecord : List ℕ → ℕ → Aquifer
+aquiferRecord s i =
+    record {
+      storage = signedBits32 s (i + 2);
+      natural = bits32 s (i + 6);
+      pumped = bits32 s (i + 10);
+      committed = bits32 s (i + 14);
+      extraction = bits32 s (i + 18);
+    }
+
+-- A unit without soil records is gauged.
+abbrev pub isGauged : UnitRecord → Bool
+isGauged u = eqb (u .soils) 0
+
+-- The unit of the balance: its UN's fields and its natural runoff.
+abbrev pub unitOf : UnitRecord → Unit
+unitOf u =
+    record {
+      downstream = u .downstream;
+      extraction = u .extraction;
+      exports = u .exports;
+      imports = u .imports;
+      returns = u .returns;
+      evaporation = u .evaporation;
+      storage = u .storage;
+      commitment = u .commitment;
+      runoff = naturalRunoff (isGauged u) (u .years) (u .sum);
+    }
+
+-- Before the first UN there is no unit.
+abbrev pub noUnit : UnitRecord
+noUnit =
+    record {
+      at = 0;
+      downstream = 0;
+      extraction = 0;
+      exports = 0;
+      imports = 0;
+      returns = 0;
+      evaporation = 0;
+      storage = pos 0;
+      commitment = 0;
+      soils = 0;
+      hectares = 0;
+      weighted = 0;
+      years = 0;
+      sum = pos 0;
+    }
