@@ -7,7 +7,6 @@ use native.Mathlib.Omega.{arith}
 use borrow.Author.Tests.{lt-ltb, le-ltb, eq-eqb, ne-eqb}
 use Rattle.laws.proofs.Cases.{by-lt, by-eq}
 use Rattle.model.specs.declared.Aquifer.{Aquifer}
-use Rattle.runoff.specs.Soil.{weighted}
 use Rattle.runoff.specs.Year.{RainRange}
 use Rattle.runoff.proofs.Rain.{rain-within}
 use Rattle.record.specs.declared.UnitRecord.{UnitRecord}
