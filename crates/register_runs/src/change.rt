@@ -39,70 +39,39 @@ fn appended(n: u64, digit: u64) -> u64 {
     18446744073709551610 + digit
 }
 
-// A space begins another number.
-fn spaced(mut c: Change) -> Change {
-    c.first = c.second;
-    c.second = c.value;
-    c.value = 0;
-    c
-}
-
-// With another digit.
-fn with_digit(mut c: Change, digit: u64) -> Change {
-    c.value = appended(c.value, digit);
-    c
-}
-
-// With another letter.
-fn with_letter(mut c: Change, letter: u8) -> Change {
-    c.kind = c.field;
-    c.field = letter;
-    c
-}
-
-// With a minus sign.
-fn with_minus(mut c: Change) -> Change {
-    c.negative = true;
-    c
-}
-
-// A change with one more byte of its text.
-pub(crate) fn read(c: Change, byte: u8) -> Change {
-    match byte {
-        b' ' => spaced(c),
-        b'-' => with_minus(c),
-        b'0'..=b'9' => with_digit(c, (byte - b'0') as u64),
-        _ => with_letter(c, byte),
+// A change with one more byte of its text: a space begins another number, and a minus sign goes before one.
+pub(crate) fn read(mut c: Change, byte: u8) -> Change {
+    if byte == b' ' {
+        c.first = c.second;
+        c.second = c.value;
+        c.value = 0;
+        return c;
     }
+    if byte == b'-' {
+        c.negative = true;
+        return c;
+    }
+    if byte < b'0' || b'9' < byte {
+        c.kind = c.field;
+        c.field = byte;
+        return c;
+    }
+    c.value = appended(c.value, (byte - b'0') as u64);
+    c
 }
 
-// The value of a change as a signed number.
-pub(crate) fn signed(c: Change) -> i64 {
-    let value = c.value;
-    let negative = c.negative;
+// A number as a signed one, below 0 or not, and the largest or the least where it is too large.
+pub(crate) fn signed(n: u64, negative: bool) -> i64 {
+    if 9223372036854775807 < n {
+        if negative {
+            return -9223372036854775808;
+        }
+        return 9223372036854775807;
+    }
     if negative {
-        below_zero(value)
-    } else {
-        from_zero(value)
+        return 0 - (n as i64);
     }
-}
-
-// n as a signed number, and the largest where n is larger.
-fn from_zero(n: u64) -> i64 {
-    if n <= 9223372036854775807 {
-        n as i64
-    } else {
-        9223372036854775807
-    }
-}
-
-// -n as a signed number, and the least where n is larger.
-fn below_zero(n: u64) -> i64 {
-    if n <= 9223372036854775807 {
-        0 - (n as i64)
-    } else {
-        -9223372036854775808
-    }
+    n as i64
 }
 
 // A number of 32 bits, and 0 for one that is larger.

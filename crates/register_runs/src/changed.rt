@@ -7,9 +7,11 @@ use model::Place;
 use model::Title;
 use model::Unit;
 
-// A unit with another volume in the entry of a letter.
-fn with_entry(mut u: Unit, field: u8, v: u32) -> Unit {
+// A unit with another downstream number, storage change or entry, by its letter.
+fn unit_with(mut u: Unit, field: u8, to: u8, z: i64, v: u32) -> Unit {
     match field {
+        b'd' => u.downstream = to,
+        b's' => u.storage = z,
         b'e' => u.extraction = v,
         b'x' => u.exports = v,
         b'i' => u.imports = v,
@@ -21,52 +23,16 @@ fn with_entry(mut u: Unit, field: u8, v: u32) -> Unit {
     u
 }
 
-// A unit with another storage change.
-fn with_storage(mut u: Unit, z: i64) -> Unit {
-    u.storage = z;
-    u
-}
-
-// A unit with another downstream number.
-fn with_downstream(mut u: Unit, to: u8) -> Unit {
-    u.downstream = to;
-    u
-}
-
-// A unit with a change made in it.
-fn unit_with(u: Unit, c: Change) -> Unit {
-    let field = c.field;
+// An aquifer with another storage change or figure, by its letter.
+fn aquifer_with(mut a: Aquifer, field: u8, z: i64, v: u32) -> Aquifer {
     match field {
-        b's' => with_storage(u, change::signed(c)),
-        b'd' => with_downstream(u, change::small(c.value)),
-        _ => with_entry(u, field, change::word(c.value)),
-    }
-}
-
-// An aquifer with another volume in the figure of a letter.
-fn with_figure(mut a: Aquifer, field: u8, v: u32) -> Aquifer {
-    match field {
+        b's' => a.storage = z,
         b'n' => a.natural = v,
         b'p' => a.pumped = v,
         b'c' => a.committed = v,
         _ => a.extraction = v,
     }
     a
-}
-
-// An aquifer with another storage change.
-fn with_level(mut a: Aquifer, z: i64) -> Aquifer {
-    a.storage = z;
-    a
-}
-
-// An aquifer with a change made in it.
-fn aquifer_with(a: Aquifer, c: Change) -> Aquifer {
-    let field = c.field;
-    match field {
-        b's' => with_level(a, change::signed(c)),
-        _ => with_figure(a, field, change::word(c.value)),
-    }
 }
 
 // The title of a change: gu, ga, tu or ta, with its volume last and what it is from and to before that.
@@ -78,50 +44,54 @@ fn title(c: Change) -> Title {
     let volume = change::word(c.value);
     if kind == b'g' {
         if field == b'u' {
-            Title::UnitWithdrawal {
+            return Title::UnitWithdrawal {
                 unit: a,
                 usage: b,
                 volume,
-            }
-        } else {
-            Title::AquiferWithdrawal { aquifer: b, volume }
+            };
         }
-    } else {
-        if field == b'u' {
-            Title::UnitTransfer {
-                from: a,
-                to: b,
-                volume,
-            }
-        } else {
-            Title::AquiferTransfer {
-                aquifer: a,
-                unit: b,
-                volume,
-            }
-        }
+        return Title::AquiferWithdrawal { aquifer: b, volume };
+    }
+    if field == b'u' {
+        return Title::UnitTransfer {
+            from: a,
+            to: b,
+            volume,
+        };
+    }
+    Title::AquiferTransfer {
+        aquifer: a,
+        unit: b,
+        volume,
     }
 }
 
 // With another entry in the unit of a number.
 fn with_unit(mut b: Balance, c: Change) -> Balance {
     let i = change::index(c.second);
-    if i < 64 {
-        let u = b.units[i];
-        let new = unit_with(u, c);
-        b.units[i] = new;
+    let to = change::small(c.value);
+    let z = change::signed(c.value, c.negative);
+    let v = change::word(c.value);
+    if 64 <= i {
+        return b;
     }
+    let u = b.units[i];
+    let new = unit_with(u, c.field, to, z, v);
+    b.units[i] = new;
     b
 }
 
 // With another figure in the aquifer of a number.
 fn with_aquifer(mut b: Balance, c: Change) -> Balance {
     let i = change::index(c.second);
-    if i < 32 {
-        let a = b.aquifers[i];
-        let new = aquifer_with(a, c);
-        b.aquifers[i] = new;
+    let z = change::signed(c.value, c.negative);
+    let v = change::word(c.value);
+    if 32 <= i {
+        return b;
     }
+    let a = b.aquifers[i];
+    let new = aquifer_with(a, c.field, z, v);
+    b.aquifers[i] = new;
     b
 }
 
@@ -138,11 +108,12 @@ fn with_fifth(mut b: Balance, t: Title) -> Balance {
 // With the title of a number cancelled.
 fn with_cancelled(mut b: Balance, number: u64) -> Balance {
     let i = change::index(number);
-    if i < 256 {
-        let mut place = b.titles[i];
-        place.in_force = false;
-        b.titles[i] = place;
+    if 256 <= i {
+        return b;
     }
+    let mut place = b.titles[i];
+    place.in_force = false;
+    b.titles[i] = place;
     b
 }
 

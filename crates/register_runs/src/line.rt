@@ -16,37 +16,30 @@ const CHANGES: u8 = 2;
 
 const COMMENT: u8 = 3;
 
-// Where the byte after a byte stands.
-fn begun(byte: u8) -> u8 {
-    match byte {
-        b'#' => COMMENT,
-        b';' => CHANGES,
-        _ => NAME,
-    }
-}
-
-fn named(byte: u8) -> u8 {
-    match byte {
-        b';' => CHANGES,
-        _ => NAME,
-    }
-}
-
+// Where a byte stands, after one that stands at a place.
 fn next_part(part: u8, byte: u8) -> u8 {
     if byte == b'\n' {
         return START;
     }
-    match part {
-        START => begun(byte),
-        NAME => named(byte),
-        _ => part,
+    if part == START {
+        if byte == b'#' {
+            return COMMENT;
+        }
+        return NAME;
     }
+    if part == NAME {
+        if byte == b';' {
+            return CHANGES;
+        }
+    }
+    part
 }
 
 // Prints a byte of the name.
 fn echo(part: u8, byte: u8) {
     if part == NAME {
-        print::byte(byte);
+        let bytes = [byte];
+        print::text(&bytes);
     }
 }
 

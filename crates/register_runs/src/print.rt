@@ -5,12 +5,6 @@ pub(crate) fn text(s: &[u8]) {
     io::write_all(STDOUT_FILENO, s);
 }
 
-// One byte.
-pub(crate) fn byte(b: u8) {
-    let bytes = [b];
-    text(&bytes);
-}
-
 // Decimal digits.
 pub(crate) fn digits(n: u64) {
     io::print_decimal(STDOUT_FILENO, n);

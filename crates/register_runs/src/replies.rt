@@ -15,16 +15,12 @@ fn show(word: &[u8], r: Reply) {
     print::digits(r.number as u64);
 }
 
-// The replies to grants: first with small volumes, then with 0 for every argument.
-fn grants(b: Balance) {
-    show(b" given", register::withdraw(b, 1, 1, 1));
-    show(b" given", register::pump(b, 1, 1));
-    show(b" given", register::transfer(b, 1, 2, 1));
-    show(b" given", register::bring(b, 1, 2, 1));
-    show(b" given", register::withdraw(b, 0, 0, 0));
-    show(b" given", register::pump(b, 0, 0));
-    show(b" given", register::transfer(b, 0, 0, 0));
-    show(b" given", register::bring(b, 0, 0, 0));
+// The replies to grants of a volume: two withdrawals and two transfers, from the unit or aquifer of a number, for a use of that number.
+fn grants(b: Balance, from: u8, to: u8, volume: u32) {
+    show(b" given", register::withdraw(b, from, from, volume));
+    show(b" given", register::pump(b, from, volume));
+    show(b" given", register::transfer(b, from, to, volume));
+    show(b" given", register::bring(b, from, to, volume));
 }
 
 // The replies to cancellations: of the transfer from an aquifer, of the withdrawal from one, and of no title.
@@ -34,9 +30,10 @@ fn cancellations(b: Balance) {
     show(b" cancelled", register::cancel(b, 0));
 }
 
-// All replies, and the end of the line.
+// All replies, and the end of the line. The grants are first of a small volume, then with 0 for every argument.
 pub(crate) fn replies(b: Balance) {
-    grants(b);
+    grants(b, 1, 2, 1);
+    grants(b, 0, 0, 0);
     cancellations(b);
     print::text(b"\n");
 }
