@@ -39,9 +39,7 @@ pub fn run(s: &[u8], from: usize, balance: Balance) -> Ran
                     Answer::Accepted => {
                         b = reply.balance;
                     }
-                    Answer::Refused(_) => {
-                        continue;
-                    }
+                    Answer::Refused(_) => {}
                 }
             }
         }
