@@ -1,6 +1,6 @@
 -- A call keeps a sound balance sound, and one that is not sound as it is. Assumes nothing.
 use Prim.Native.Nat.{ℕ, _+_}
-use mathlib.Core.Path.{_≡_, refl, sym, ap, subst⁻¹, _∙_}
+use mathlib.Core.Path.{_≡_, refl, sym, ap, _∙_}
 use mathlib.Core.Bool.{true, false}
 use Rattle.laws.proofs.Cases.{by-bool}
 use Rattle.model.specs.declared.Balance.{Balance}
