@@ -1,14 +1,16 @@
 -- One record of the calls more, by what stands there. Assumes nothing.
 use Prim.Native.Nat.{ℕ, zero, suc, _-_, _≤_, _<_}
 use mathlib.Core.Path.{_≡_, refl, sym, ap, _∙_}
-use mathlib.Core.List.{List, [], _∷_}
+use mathlib.Core.List.{List}
 use native.Mathlib.Numerals.{sub-one}
 use native.Mathlib.Omega.{arith}
 use Rattle.model.specs.declared.Call.{Call}
+use Rattle.model.specs.declared.Answer.the-variants.{Refused}
 use Rattle.model.specs.declared.Balance.{Balance}
 use Rattle.record.specs.declared.CallAt.the-variants.{End, Fails, Asks}
 use Rattle.record.specs.Calls.{callAt, Ending, finished, failed, callsFrom, endingFrom, callsOf, endingOf}
 use Rattle.register.specs.Calls.{callReply, after}
+use Rattle.register.proofs.Keeping.{refused-keeps}
 use Rattle.calls.specs.declared.Ran.{Ran}
 use Rattle.calls.specs.Running.{ranAs, ran}
 
@@ -49,6 +51,12 @@ module _ (s : List ℕ) (all : Ran) where
   turn-asks zero at b c to h e q = absurd (omega arith)
   turn-asks (suc left) at b c to h e q =
       ap (λ (n : ℕ). rest n s to (callReply b c .balance)) (sub-one (suc left)) ∙ sym (rest-asks left s at b c to q) ∙ e
+
+  -- A refused call leaves the balance as it is.
+  pub turn-refused : (left at : ℕ) (b : Balance) (c : Call) (to k : ℕ) → 0 < left → rest left s at b ≡ all → callAt s at ≡ Asks c to
+      → callReply b c .answer ≡ Refused k → rest (left - 1) s to b ≡ all
+  turn-refused left at b c to k h e q a =
+      ap (λ (x : Balance). rest (left - 1) s to x) (sym (refused-keeps b c k a .0)) ∙ turn-asks left at b c to h e q
 
   pub turn-none : (left at : ℕ) (b : Balance) → left ≤ 0 → rest left s at b ≡ all → ranAs (failed 1 at) b ≡ all
   turn-none zero at b h e = sym (rest-none s at b) ∙ e

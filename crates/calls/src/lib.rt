@@ -33,8 +33,14 @@ pub fn run(s: &[u8], from: usize, balance: Balance) -> Ran
             }
             CallAt::Asks { call, to } => {
                 let reply = register::ask_tested(b, sound, call);
-                b = reply.balance;
+                let answer = reply.answer;
                 at = to;
+                match answer {
+                    Answer::Accepted => {
+                        b = reply.balance;
+                    }
+                    Answer::Refused(_) => {}
+                }
             }
         }
     }

@@ -18,6 +18,7 @@ use Rattle.register.specs.Cancel.{cancelRefusal}
 use Rattle.register.specs.Reply.{afterTest, replied}
 use Rattle.register.specs.Calls.{callRefusal, callReply, after}
 use Rattle.register.proofs.Staying.{not-refused}
+use Rattle.register.proofs.Keeping as keeping
 use Rattle.conservation.specs.Demand3.{Tally, start, tallyRefusal, unlessRefused, tallied}
 use Rattle.conservation.specs.Replies.{Said, replies, numberFor, saying, sayings, counts, acceptances}
 use Rattle.conservation.proofs.Following.{Follows, changed, carried, replied-to, same-refusal, follows-start, follows-call}
@@ -53,15 +54,9 @@ followed d b t f (c ∷ cs) = λ i.
 pub replies-agree : (s : List ℕ) (d : Description) (at : ℕ) → reading s ≡ read d at → (cs : List Call) → replies (opened s .balance) cs ≡ sayings d start cs
 replies-agree s d at e = followed d (opened s .balance) start (follows-start s d at e)
 
-keeps : (r : Refusal) (old new : Balance) (m n : ℕ) → replied r old new m .answer ≡ Refused n
-    → (replied r old new m .balance ≡ old) × (replied r old new m .number ≡ 0)
-keeps none old new m n e = absurd (not-refused n (replied none old new m) e refl)
-keeps (number k) old new m n e = (refl, refl)
-
 -- A refused call returns the balance handed to it, whatever that is, and 0 as the title's number.
 pub refused-keeps : (b : Balance) (c : Call) (n : ℕ) → callReply b c .answer ≡ Refused n → (callReply b c .balance ≡ b) × (callReply b c .number ≡ 0)
-refused-keeps b (Grant x) n e = keeps (afterTest b (grantRefusal (viewOf b) x)) b (changed b (Grant x)) (carried b (Grant x)) n e
-refused-keeps b (Cancel k) n e = keeps (afterTest b (cancelRefusal (viewOf b) k)) b (changed b (Cancel k)) k n e
+refused-keeps = keeping.refused-keeps
 
 one-count : (r : Refusal) (t : Tally) (c : Call) → unlessRefused r t c .last ≡ t .last + counts r c
 one-count none t (Grant x) = omega arith

@@ -5,6 +5,7 @@ use lib.ListN.{set}
 use Rattle.model.specs.declared.Unit.{Unit}
 use Rattle.model.specs.declared.Aquifer.{Aquifer}
 use Rattle.model.specs.declared.Title.{Title}
+use Rattle.model.specs.declared.Place.{Place}
 use Rattle.model.specs.declared.Balance.{Balance}
 
 -- A unit with a withdrawal and its return, with an export, with an import; an aquifer with an extraction.
@@ -136,15 +137,19 @@ withAquifer b k a =
       given = b .given;
     }
 
--- The balance with a title in the next place and in force, and one number more given.
-abbrev pub entered : Balance → Title → Balance
-entered b t =
+-- The place of a title in force.
+abbrev pub inForce : Title → Place
+inForce t = record { title = t; «in_force» = true }
+
+-- The balance with a place as the next one of its register, and one number more given.
+abbrev pub withPlace : Balance → Place → Balance
+withPlace b p =
     record {
       units = b .units;
       «unit_count» = b .«unit_count»;
       aquifers = b .aquifers;
       «aquifer_count» = b .«aquifer_count»;
-      titles = set (b .titles) (b .given) (record { title = t; «in_force» = true });
+      titles = set (b .titles) (b .given) p;
       given = b .given + 1;
     }
 

@@ -48,19 +48,14 @@ fn pumped(mut a: Aquifer, volume: u32) -> Aquifer
     a
 }
 
-// The balance with a title in the next place and in force.
-fn entered(mut b: Balance, t: Title) -> Balance
-    requires { ⌜ b .given < 256 ⌝ }
-    ensures { λ r. ⌜ r ≡ effects.entered b t ⌝ }
+// The place of a title in force.
+fn in_force(title: Title) -> Place
+    ensures { λ r. ⌜ r ≡ effects.inForce title ⌝ }
 {
-    let n = b.given;
-    let place = Place {
-        title: t,
+    Place {
+        title,
         in_force: true,
-    };
-    b.titles[n] = place;
-    b.given = n + 1;
-    b
+    }
 }
 
 // The balance with a withdrawal from a unit in: its extraction raised by the volume and its returns by what comes back.
@@ -72,14 +67,15 @@ fn post_withdrawal(mut b: Balance, unit: u8, usage: u8, volume: u32) -> Balance
     let u = b.units[k];
     let raised = withdrawn(u, volume, titles::returned(usage, volume));
     b.units[k] = raised;
-    entered(
-        b,
-        Title::UnitWithdrawal {
-            unit,
-            usage,
-            volume,
-        },
-    )
+    let n = b.given;
+    let place = in_force(Title::UnitWithdrawal {
+        unit,
+        usage,
+        volume,
+    });
+    b.titles[n] = place;
+    b.given = n + 1;
+    b
 }
 
 // The balance with a withdrawal from an aquifer in.
@@ -91,7 +87,11 @@ fn post_pumping(mut b: Balance, aquifer: u8, volume: u32) -> Balance
     let a = b.aquifers[k];
     let raised = pumped(a, volume);
     b.aquifers[k] = raised;
-    entered(b, Title::AquiferWithdrawal { aquifer, volume })
+    let n = b.given;
+    let place = in_force(Title::AquiferWithdrawal { aquifer, volume });
+    b.titles[n] = place;
+    b.given = n + 1;
+    b
 }
 
 // The balance with a transfer from a unit in: the giver's exports and the receiver's imports raised.
@@ -107,7 +107,11 @@ fn post_transfer(mut b: Balance, from: u8, to: u8, volume: u32) -> Balance
     let receiver = b.units[k];
     let raised = imported(receiver, volume);
     b.units[k] = raised;
-    entered(b, Title::UnitTransfer { from, to, volume })
+    let n = b.given;
+    let place = in_force(Title::UnitTransfer { from, to, volume });
+    b.titles[n] = place;
+    b.given = n + 1;
+    b
 }
 
 // The balance with a transfer from an aquifer in: the aquifer's extraction and the unit's imports raised.
@@ -123,14 +127,15 @@ fn post_bringing(mut b: Balance, aquifer: u8, unit: u8, volume: u32) -> Balance
     let u = b.units[k];
     let raised = imported(u, volume);
     b.units[k] = raised;
-    entered(
-        b,
-        Title::AquiferTransfer {
-            aquifer,
-            unit,
-            volume,
-        },
-    )
+    let n = b.given;
+    let place = in_force(Title::AquiferTransfer {
+        aquifer,
+        unit,
+        volume,
+    });
+    b.titles[n] = place;
+    b.given = n + 1;
+    b
 }
 
 // The balance with a title in.

@@ -1,19 +1,20 @@
 -- The loop over the calls of a book: the lines written so far and those of the calls that are left are all call lines. Assumes nothing.
 use Prim.Native.Nat.{ℕ, zero, suc, _+_, _-_, _*_, _≤_, _<_}
-use mathlib.Core.Path.{_≡_, refl, sym, ap, subst⁻¹, _∙_}
-use mathlib.Core.List.{List, [], _∷_, _++_, append-nil, append-assoc}
+use mathlib.Core.Path.{_≡_, refl, sym, ap, subst, subst⁻¹, _∙_}
+use mathlib.Core.List.{List, [], _++_, append-nil, append-assoc}
 use lib.ListN.{length}
 use native.Mathlib.Numerals.{add-one, sub-one}
 use native.Mathlib.Omega.{arith}
 use Rattle.model.specs.declared.Call.{Call}
+use Rattle.model.specs.declared.Answer.the-variants.{Refused}
 use Rattle.model.specs.declared.Balance.{Balance}
 use Rattle.record.specs.declared.CallAt.the-variants.{End, Fails, Asks}
-use Rattle.record.specs.Calls.{callAt, finished, failed, callsFrom, callsOf}
+use Rattle.record.specs.Calls.{callAt, callsFrom, callsOf}
 use Rattle.register.specs.Calls.{callReply}
 use Rattle.register.specs.declared.Reply.{Reply}
-use Rattle.calls.specs.declared.Ran.{Ran}
-use Rattle.calls.specs.Running.{ranAs, ran}
-use Rattle.calls.proofs.Running.{rest, turn-ends, turn-fails, turn-asks, turn-none}
+use Rattle.register.proofs.Keeping.{refused-keeps}
+use Rattle.calls.specs.Running.{ran}
+use Rattle.calls.proofs.Running.{rest, turn-asks}
 use Rattle.calls.proofs.Onward.{asks-onward}
 use Rattle.text.specs.Text.{Written}
 use Rattle.text.proofs.Writing.{then, widen, restate, still}
@@ -108,3 +109,12 @@ module _ (s : List ℕ) (from : ℕ) (start : Balance) (old : List ℕ) (p₀ : 
       subst⁻¹
       (λ (x : Reply). Written 64 out p (callText (k + 1) c (x .answer) (x .number)) new q → Printing s from start old p₀ new q (x .balance) to (k + 1) (left - 1))
       a (printing-asks left c to new q h i e)
+
+  -- A refused call leaves the balance as it is.
+  pub printing-refused : (left : ℕ) (c : Call) (to : ℕ) (new : List ℕ) (q : ℕ) (r : Reply) (n : ℕ) → r ≡ callReply b c → r .answer ≡ Refused n → 0 < left
+      → Printing s from start old p₀ out p b at k left → callAt s at ≡ Asks c to → Written 64 out p (callText (k + 1) c (r .answer) (r .number)) new q
+      → Printing s from start old p₀ new q b to (k + 1) (left - 1)
+  printing-refused left c to new q r n a f h i e w =
+      subst (λ (x : Balance). Printing s from start old p₀ new q x to (k + 1) (left - 1))
+      (ap (λ (x : Reply). x .balance) a ∙ refused-keeps b c n (ap (λ (x : Reply). x .answer) (sym a) ∙ f) .0)
+      (printing-replies left c to new q r a h i e w)

@@ -162,8 +162,13 @@ fn call_lines(s: &[u8], from: usize, balance: Balance, out: &mut [u8; ROOM]) -> 
                 let answer = reply.answer;
                 k += 1;
                 p = call_line(out, p, k, call, answer, reply.number);
-                b = reply.balance;
                 at = to;
+                match answer {
+                    Answer::Accepted => {
+                        b = reply.balance;
+                    }
+                    Answer::Refused(_) => {}
+                }
             }
         }
     }

@@ -1,12 +1,12 @@
 -- A call keeps a sound balance sound, and one that is not sound as it is. Assumes nothing.
 use Prim.Native.Nat.{ℕ, _+_}
-use mathlib.Core.Path.{_≡_, refl, sym, ap, subst⁻¹, _∙_}
+use mathlib.Core.Path.{_≡_, refl, sym, ap, _∙_}
 use mathlib.Core.Bool.{true, false}
 use Rattle.laws.proofs.Cases.{by-bool}
 use Rattle.model.specs.declared.Balance.{Balance}
 use Rattle.model.specs.declared.Call.{Call}
 use Rattle.model.specs.declared.Call.the-variants.{Grant, Cancel}
-use Rattle.model.specs.declared.Answer.the-variants.{Accepted}
+use Rattle.model.specs.declared.Answer.the-variants.{Accepted, Refused}
 use Rattle.model.specs.View.{viewOf}
 use Rattle.model.specs.Answers.{Refusal, none, number}
 use Rattle.basin.specs.Sound.{sound}
@@ -18,7 +18,7 @@ use Rattle.register.specs.Cancel.{cancelRefusal}
 use Rattle.register.specs.Calls.{callReply}
 use Rattle.register.specs.declared.Reply.{Reply}
 use Rattle.register.proofs.Replies.{reply-unsound}
-use Rattle.register.proofs.Staying.{accepted-sound}
+use Rattle.register.proofs.Staying.{accepted-sound, not-refused}
 use Rattle.register.proofs.Leaving.{reply-fault, cancel-sound}
 
 -- 0.
@@ -42,3 +42,13 @@ pub call-keeps : (b : Balance) (c : Call) → Sized b → sound (viewOf b) ≡ s
 call-keeps b c z =
     by-bool (sound (viewOf b)) (λ e. e ∙ sym (call-sound b c z e))
     (λ e. ap (λ (r : Reply). sound (viewOf (r .balance))) (call-unsound b c e))
+
+outcome-keeps : (r : Refusal) (old new : Balance) (m k : ℕ) → replied r old new m .answer ≡ Refused k
+    → (replied r old new m .balance ≡ old) × (replied r old new m .number ≡ 0)
+outcome-keeps none old new m k e = absurd (not-refused k (replied none old new m) e refl)
+outcome-keeps (number n) old new m k e = (refl, refl)
+
+-- A refused call returns the balance handed to it, whatever that is, and 0 as the title's number.
+pub refused-keeps : (b : Balance) (c : Call) (k : ℕ) → callReply b c .answer ≡ Refused k → (callReply b c .balance ≡ b) × (callReply b c .number ≡ 0)
+refused-keeps b (Grant t) k e = outcome-keeps (afterTest b (grantRefusal (viewOf b) t)) b (posted b t) (b .given + 1) k e
+refused-keeps b (Cancel n) k e = outcome-keeps (afterTest b (cancelRefusal (viewOf b) n)) b (withoutTitle b n) n k e

@@ -1,12 +1,13 @@
 -- `calls::run` meets its contract. Assumes nothing.
-use mathlib.Core.Path.{_≡_, refl, sym, _∙_}
+use mathlib.Core.Path.{_≡_, refl, sym, ap, _∙_}
 use native.Mathlib.Omega.{arith}
 use borrow.Author.Needs.{needs}
 use borrow.Author.Count.{falls-down}
 use Rattle.model.specs.View.{viewOf}
 use Rattle.basin.specs.Sound.{sound}
+use Rattle.register.specs.declared.Reply.{Reply}
 use Rattle.calls.specs.Running.{ran}
-use Rattle.calls.proofs.Running.{rest, turn-ends, turn-fails, turn-asks, turn-none}
+use Rattle.calls.proofs.Running.{rest, turn-ends, turn-fails, turn-asks, turn-refused, turn-none}
 use Rattle.calls.proofs.run.Statement.{statement}
 use Rattle.calls.proofs.run.Tie as tie
 
@@ -55,14 +56,30 @@ enum-known-call c = search needs
 ask-tested-requires : tie.Need-ask-tested-requires Inv-loop μ-loop
 ask-tested-requires c κs = c .before .before .before .before .before .loop .inv .1
 
+enum-told-2 : tie.Need-enum-told-2 Inv-loop μ-loop
+enum-told-2 c = search needs
+
 loop-less : tie.Need-loop-less Inv-loop μ-loop
-loop-less c = falls-down _ (c .before .before .before .before .before .before .loop-test .taken)
+loop-less c = falls-down _ (c .before .before .before .before .before .before .before .before .loop-test .taken)
 
 loop-again : tie.Need-loop-again Inv-loop μ-loop
 loop-again c = (
-  rw (c .before .ask-tested .ensures .0)
-      (turn-asks _ _ _ _ _ _ _ (c .before .before .before .before .before .before .loop-test .taken) (c .before .before .before .before .before .before .before .loop .inv .0) (sym (c .before .before .before .before .before .call-at .ensures) ∙ c .before .before .before .call .given .1)),
-  c .before .ask-tested .ensures .1,
+  rw (c .before .before .before .ask-tested .ensures .0)
+      (turn-asks _ _ _ _ _ _ _ (c .before .before .before .before .before .before .before .before .loop-test .taken) (c .before .before .before .before .before .before .before .before .before .loop .inv .0) (sym (c .before .before .before .before .before .before .before .call-at .ensures) ∙ c .before .before .before .before .before .call .given .1)),
+  c .before .before .before .ask-tested .ensures .1,
+)
+
+enum-told-3 : tie.Need-enum-told-3 Inv-loop μ-loop
+enum-told-3 c = search needs
+
+loop-less-2 : tie.Need-loop-less-2 Inv-loop μ-loop
+loop-less-2 c = falls-down _ (c .before .before .before .before .before .before .before .loop-test .taken)
+
+loop-again-2 : tie.Need-loop-again-2 Inv-loop μ-loop
+loop-again-2 c = (
+  turn-refused _ _ _ _ _ _ _ _ (c .before .before .before .before .before .before .before .loop-test .taken) (c .before .before .before .before .before .before .before .before .loop .inv .0) (sym (c .before .before .before .before .before .before .call-at .ensures) ∙ c .before .before .before .before .call .given .1)
+      (ap (λ (r : Reply). r .answer) (sym (c .before .before .ask-tested .ensures .0)) ∙ c .enum-told3 .given .1),
+  c .before .before .before .before .before .before .before .before .loop .inv .1,
 )
 
 failed-requires-2 : tie.Need-failed-requires-2 Inv-loop μ-loop
@@ -90,7 +107,11 @@ run-spec =
     returns-2
     enum-known-call
     ask-tested-requires
+    enum-told-2
     loop-less
     loop-again
+    enum-told-3
+    loop-less-2
+    loop-again-2
     failed-requires-2
     returns-3)

@@ -7,7 +7,7 @@ use Rattle.model.specs.View.{viewOf}
 use Rattle.basin.specs.Sound.{sound}
 use Rattle.calls.proofs.Running.{turn-ends, turn-fails, turn-none}
 use Rattle.text.proofs.Writing.{then, widen}
-use Rattle.listing.proofs.Calling.{Printing, printing-start, lines-end, lines-fail, lines-none, printing-replies}
+use Rattle.listing.proofs.Calling.{Printing, printing-start, lines-end, lines-fail, lines-none, printing-replies, printing-refused}
 use Rattle.listing.proofs.call_lines.Statement.{statement}
 use Rattle.listing.proofs.call_lines.Tie as tie
 
@@ -85,15 +85,34 @@ call-line-requires c κs =
     let i = c .before .before .before .before .before .before .before .loop .inv .0 in
     omega (arith, i .written .short, i .written .place, c .before .before .before .before .before .before .before .before .before .no-line .ensures .place, i .few, c .before .before .before .before .before .before .before .before .before .before .before .before .pre)
 
+enum-told-2 : tie.Need-enum-told-2 Inv-loop μ-loop
+enum-told-2 c = search needs
+
 loop-less : tie.Need-loop-less Inv-loop μ-loop
-loop-less c = falls-down _ (c .before .before .before .before .before .before .before .before .loop-test .taken)
+loop-less c = falls-down _ (c .before .before .before .before .before .before .before .before .before .before .loop-test .taken)
 
 loop-again : tie.Need-loop-again Inv-loop μ-loop
 loop-again c =
-    let start = c .before .before .before .before .before .before .before .before .before .before .before .before .before .before in (
-      printing-replies (start .args .s .now) (start .args .from) (start .args .balance) _ _ _ _ _ _ _ _ _ _ _ _ _ (c .before .before .before .ask-tested .ensures .0)
-          (c .before .before .before .before .before .before .before .before .loop-test .taken) (c .before .before .before .before .before .before .before .before .before .loop .inv .0) (sym (c .before .before .before .before .before .before .before .call-at .ensures) ∙ c .before .before .before .before .before .call .given .1) (c .before .call-line .ensures),
-      c .before .before .before .ask-tested .ensures .1,
+    let line = c .before .before .before in
+    let start = line .before .before .before .before .before .before .before .before .before .before .before .before .before in (
+      printing-replies (start .args .s .now) (start .args .from) (start .args .balance) _ _ _ _ _ _ _ _ _ _ _ _ _ (line .before .before .ask-tested .ensures .0)
+          (line .before .before .before .before .before .before .before .loop-test .taken) (line .before .before .before .before .before .before .before .before .loop .inv .0) (sym (line .before .before .before .before .before .before .call-at .ensures) ∙ line .before .before .before .before .call .given .1) (line .call-line .ensures),
+      line .before .before .ask-tested .ensures .1,
+    )
+
+enum-told-3 : tie.Need-enum-told-3 Inv-loop μ-loop
+enum-told-3 c = search needs
+
+loop-less-2 : tie.Need-loop-less-2 Inv-loop μ-loop
+loop-less-2 c = falls-down _ (c .before .before .before .before .before .before .before .before .before .loop-test .taken)
+
+loop-again-2 : tie.Need-loop-again-2 Inv-loop μ-loop
+loop-again-2 c =
+    let line = c .before .before in
+    let start = line .before .before .before .before .before .before .before .before .before .before .before .before .before in (
+      printing-refused (start .args .s .now) (start .args .from) (start .args .balance) _ _ _ _ _ _ _ _ _ _ _ _ _ _ (line .before .before .ask-tested .ensures .0) (c .enum-told3 .given .1)
+          (line .before .before .before .before .before .before .before .loop-test .taken) (line .before .before .before .before .before .before .before .before .loop .inv .0) (sym (line .before .before .before .before .before .before .call-at .ensures) ∙ line .before .before .before .before .call .given .1) (line .call-line .ensures),
+      line .before .before .before .before .before .before .before .before .loop .inv .1,
     )
 
 failed-requires-2 : tie.Need-failed-requires-2 Inv-loop μ-loop
@@ -133,7 +152,11 @@ call-lines-spec =
     ask-tested-requires
     add-k
     call-line-requires
+    enum-told-2
     loop-less
     loop-again
+    enum-told-3
+    loop-less-2
+    loop-again-2
     failed-requires-2
     returns-3)

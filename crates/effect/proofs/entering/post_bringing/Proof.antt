@@ -4,7 +4,6 @@ use mathlib.Core.Path.{sym, _∙_}
 use lib.ListN.{getD}
 use native.Mathlib.Numerals.{sub-one}
 use Rattle.model.specs.Fresh.{emptyUnit, emptyAquifer}
-use Rattle.model.specs.declared.Title.the-variants.{AquiferTransfer}
 use Rattle.effect.specs.Effect as effects
 use Rattle.effect.proofs.Raising.{raised-bring, raised-source}
 use borrow.Author.Needs.{needs}
@@ -51,14 +50,22 @@ mul-raised c = search needs
 element-set-from-raised : tie.Need-element-set-from-raised
 element-set-from-raised c = search needs
 
-entered-requires : tie.Need-entered-requires
-entered-requires c κs = search needs
+in-force-requires : tie.Need-in-force-requires
+in-force-requires c κs = search needs
+
+mul-place : tie.Need-mul-place
+mul-place c = search needs
+
+element-set-from-place : tie.Need-element-set-from-place
+element-set-from-place c = search needs
+
+add-b : tie.Need-add-b
+add-b c = search needs
 
 returns : tie.Need-returns
 returns c =
     let start = c .before .before .before .before .before in
     let b = start .args .t1 in
-    let t = AquiferTransfer (start .args .aquifer) (start .args .unit) (start .args .volume) in
     let j = sub-one (start .args .aquifer) in
     let k = sub-one (start .args .unit) in
     let e =
@@ -69,7 +76,7 @@ returns c =
     c .before .imported .ensures
     ∙ (λ i. effects.imported (getD (b .units) (k i) emptyUnit) (start .args .volume))
     ∙ sym (raised-bring (start .args .aquifer) (start .args .unit) (start .args .volume) (getD (b .units) (pred (start .args .unit)) emptyUnit) (start .pre .named .2)) in
-    c .entered .ensures ∙ (λ i. effects.entered (effects.withUnit (effects.withAquifer b (j i) (e i)) (k i) (f i)) t)
+    λ i. effects.withPlace (effects.withUnit (effects.withAquifer b (j i) (e i)) (k i) (f i)) (c .in-force .ensures i)
 
 pub post-bringing-spec : {M : Type 1} → statement M
 post-bringing-spec =
@@ -87,5 +94,8 @@ post-bringing-spec =
     imported-requires
     mul-raised
     element-set-from-raised
-    entered-requires
+    in-force-requires
+    mul-place
+    element-set-from-place
+    add-b
     returns)

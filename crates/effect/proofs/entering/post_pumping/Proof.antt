@@ -4,7 +4,6 @@ use mathlib.Core.Path.{sym, _∙_}
 use lib.ListN.{getD}
 use native.Mathlib.Numerals.{sub-one}
 use Rattle.model.specs.Fresh.{emptyAquifer}
-use Rattle.model.specs.declared.Title.the-variants.{AquiferWithdrawal}
 use Rattle.effect.specs.Effect as effects
 use Rattle.effect.proofs.Raising.{raised-pump}
 use borrow.Author.Needs.{needs}
@@ -31,20 +30,28 @@ mul-raised c = search needs
 element-set-from-raised : tie.Need-element-set-from-raised
 element-set-from-raised c = search needs
 
-entered-requires : tie.Need-entered-requires
-entered-requires c κs = search needs
+in-force-requires : tie.Need-in-force-requires
+in-force-requires c κs = search needs
+
+mul-place : tie.Need-mul-place
+mul-place c = search needs
+
+element-set-from-place : tie.Need-element-set-from-place
+element-set-from-place c = search needs
+
+add-b : tie.Need-add-b
+add-b c = search needs
 
 returns : tie.Need-returns
 returns c =
     let start = c .before .before .before in
     let b = start .args .t1 in
-    let t = AquiferWithdrawal (start .args .aquifer) (start .args .volume) in
     let k = sub-one (start .args .aquifer) in
     let e =
     c .before .pumped .ensures
     ∙ (λ i. effects.pumped (getD (b .aquifers) (k i) emptyAquifer) (start .args .volume))
     ∙ sym (raised-pump (start .args .aquifer) (start .args .volume) (getD (b .aquifers) (pred (start .args .aquifer)) emptyAquifer) (start .pre .named .0)) in
-    c .entered .ensures ∙ (λ i. effects.entered (effects.withAquifer b (k i) (e i)) t)
+    λ i. effects.withPlace (effects.withAquifer b (k i) (e i)) (c .in-force .ensures i)
 
 pub post-pumping-spec : {M : Type 1} → statement M
 post-pumping-spec =
@@ -56,5 +63,8 @@ post-pumping-spec =
     pumped-requires
     mul-raised
     element-set-from-raised
-    entered-requires
+    in-force-requires
+    mul-place
+    element-set-from-place
+    add-b
     returns)

@@ -56,8 +56,17 @@ mul-raised c = search needs
 element-set-from-raised : tie.Need-element-set-from-raised
 element-set-from-raised c = search needs
 
-entered-requires : tie.Need-entered-requires
-entered-requires c κs = search needs
+in-force-requires : tie.Need-in-force-requires
+in-force-requires c κs = search needs
+
+mul-place : tie.Need-mul-place
+mul-place c = search needs
+
+element-set-from-place : tie.Need-element-set-from-place
+element-set-from-place c = search needs
+
+add-b : tie.Need-add-b
+add-b c = search needs
 
 returns : tie.Need-returns
 returns c =
@@ -74,7 +83,7 @@ returns c =
     c .before .imported .ensures
     ∙ (λ i. effects.imported (getD (set (b .units) (j i) (e i)) (k i) emptyUnit) (start .args .volume))
     ∙ sym (raised-import (start .args .from) (start .args .to) (start .args .volume) (getD (raiseAt t (start .args .from) (b .units)) (pred (start .args .to)) emptyUnit) (start .pre .named .2) (start .pre .named .4)) in
-    c .entered .ensures ∙ (λ i. effects.entered (effects.withUnit (effects.withUnit b (j i) (e i)) (k i) (f i)) t)
+    λ i. effects.withPlace (effects.withUnit (effects.withUnit b (j i) (e i)) (k i) (f i)) (c .in-force .ensures i)
 
 pub post-transfer-spec : {M : Type 1} → statement M
 post-transfer-spec =
@@ -92,5 +101,8 @@ post-transfer-spec =
     imported-requires
     mul-raised
     element-set-from-raised
-    entered-requires
+    in-force-requires
+    mul-place
+    element-set-from-place
+    add-b
     returns)

@@ -4,7 +4,6 @@ use mathlib.Core.Path.{sym, _∙_}
 use lib.ListN.{getD}
 use native.Mathlib.Numerals.{sub-one}
 use Rattle.model.specs.Fresh.{emptyUnit}
-use Rattle.model.specs.declared.Title.the-variants.{UnitWithdrawal}
 use Rattle.effect.specs.Effect as effects
 use Rattle.effect.proofs.Raising.{raised-withdrawal}
 use borrow.Author.Needs.{needs}
@@ -34,20 +33,28 @@ mul-raised c = search needs
 element-set-from-raised : tie.Need-element-set-from-raised
 element-set-from-raised c = search needs
 
-entered-requires : tie.Need-entered-requires
-entered-requires c κs = search needs
+in-force-requires : tie.Need-in-force-requires
+in-force-requires c κs = search needs
+
+mul-place : tie.Need-mul-place
+mul-place c = search needs
+
+element-set-from-place : tie.Need-element-set-from-place
+element-set-from-place c = search needs
+
+add-b : tie.Need-add-b
+add-b c = search needs
 
 returns : tie.Need-returns
 returns c =
     let start = c .before .before .before .before in
     let b = start .args .t1 in
-    let t = UnitWithdrawal (start .args .unit) (start .args .usage) (start .args .volume) in
     let k = sub-one (start .args .unit) in
     let e =
     c .before .withdrawn .ensures
     ∙ (λ i. effects.withdrawn (getD (b .units) (k i) emptyUnit) (start .args .volume) (c .before .before .returned .ensures i))
     ∙ sym (raised-withdrawal (start .args .unit) (start .args .usage) (start .args .volume) (getD (b .units) (pred (start .args .unit)) emptyUnit) (start .pre .named .0)) in
-    c .entered .ensures ∙ (λ i. effects.entered (effects.withUnit b (k i) (e i)) t)
+    λ i. effects.withPlace (effects.withUnit b (k i) (e i)) (c .in-force .ensures i)
 
 pub post-withdrawal-spec : {M : Type 1} → statement M
 post-withdrawal-spec =
@@ -60,5 +67,8 @@ post-withdrawal-spec =
     withdrawn-requires
     mul-raised
     element-set-from-raised
-    entered-requires
+    in-force-requires
+    mul-place
+    element-set-from-place
+    add-b
     returns)
