@@ -7,6 +7,7 @@ mod fields;
 pub use bytes::bits8;
 pub use bytes::bits16;
 pub use bytes::bits32;
+pub use bytes::signed_bits32;
 pub use calls::call_at;
 pub use fault::aquifer_fault;
 pub use fault::closing_fault;

@@ -20,44 +20,59 @@ sub-if1 c = search needs
 returns : tie.Need-returns
 returns c = is-short (c .before .before .args .s .now) (c .before .before .args .at) 34 _ (c .if1 .taken)
 
+add-signed-bits32 : tie.Need-add-signed-bits32
+add-signed-bits32 c = search needs
+
+signed-bits32-requires : tie.Need-signed-bits32-requires
+signed-bits32-requires c κs = search needs
+
 outside-at-requires : tie.Need-outside-at-requires
-outside-at-requires c κs = search needs
+outside-at-requires c κs = (
+  omega (arith, c .before .if1 .left, c .before .before .before .pre .0),
+  whole-ok (c .signed-bits32 .result) (c .signed-bits32 .ok) ∙ c .signed-bits32 .ensures,
+)
 
 gauge-fault-requires : tie.Need-gauge-fault-requires
 gauge-fault-requires c κs = search needs
 
 fault-is : (c : tie.After-gauge-fault)
     → c .gauge-fault .result
-    ≡ faults.gaugeFault (c .before .before .before .before .args .units) (c .before .before .before .before .args .aquifers) (c .before .before .before .before .args .u) (gaugeOutsideAt (c .before .before .before .before .args .s .now) (c .before .before .before .before .args .at))
+    ≡ faults.gaugeFault (c .before .before .before .before .before .args .units) (c .before .before .before .before .before .args .aquifers) (c .before .before .before .before .before .args .u) (gaugeOutsideAt (c .before .before .before .before .before .args .s .now) (c .before .before .before .before .before .args .at))
 fault-is c =
-    let start = c .before .before .before .before in
+    let start = c .before .before .before .before .before in
     c .gauge-fault .ensures ∙ ap (faults.gaugeFault (start .args .units) (start .args .aquifers) (start .args .u)) (c .before .outside-at .ensures)
 
-inside : (c : tie.Else2) → gaugeOutsideAt (c .before .before .before .before .before .args .s .now) (c .before .before .before .before .before .args .at) ≡ false
-inside c = gauge-clean (c .before .before .before .before .before .args .units) (c .before .before .before .before .before .args .aquifers) (c .before .before .before .before .before .args .u) _ (sym (fault-is (c .before)) ∙ c .if2 .left) .inside
+inside : (c : tie.Else2) → gaugeOutsideAt (c .before .before .before .before .before .before .args .s .now) (c .before .before .before .before .before .before .args .at) ≡ false
+inside c = gauge-clean (c .before .before .before .before .before .before .args .units) (c .before .before .before .before .before .before .args .aquifers) (c .before .before .before .before .before .before .args .u) _ (sym (fault-is (c .before)) ∙ c .if2 .left) .inside
 
 returns-2 : tie.Need-returns-2
 returns-2 c =
-    let start = c .before .before .before .before .before in
-    is-whole (start .args .s .now) (start .args .at) 34 _ _ (c .before .before .before .if1 .left)
+    let start = c .before .before .before .before .before .before in
+    is-whole (start .args .s .now) (start .args .at) 34 _ _ (c .before .before .before .before .if1 .left)
     (is-faulty (c .before .gauge-fault .result) _ _ _ (fault-is (c .before)) (c .if2 .taken))
 
 year-at-requires : tie.Need-year-at-requires
-year-at-requires c κs = (omega (arith, c .before .before .before .if1 .left, c .before .before .before .before .before .pre .0), inside c)
+year-at-requires c κs = (
+  omega (arith, c .before .before .before .before .if1 .left, c .before .before .before .before .before .before .pre .0),
+  (
+    whole-ok (c .before .before .before .signed-bits32 .result) (c .before .before .before .signed-bits32 .ok) ∙ c .before .before .before .signed-bits32 .ensures,
+    inside c,
+  ),
+)
 
 with-year-requires : tie.Need-with-year-requires
 with-year-requires c κs = (
-  c .before .before .before .before .before .before .pre .1,
-  rw (whole-ok (c .year-at .result) (c .year-at .ok), c .year-at .ensures) (range-at (c .before .before .before .before .before .before .args .s .now) (c .before .before .before .before .before .before .args .at) (inside (c .before))),
+  c .before .before .before .before .before .before .before .pre .1,
+  rw (whole-ok (c .year-at .result) (c .year-at .ok), c .year-at .ensures) (range-at (c .before .before .before .before .before .before .before .args .s .now) (c .before .before .before .before .before .before .before .args .at) (inside (c .before))),
 )
 
-add-t7 : tie.Need-add-t7
-add-t7 c = search needs
+add-t8 : tie.Need-add-t8
+add-t8 c = search needs
 
 returns-3 : tie.Need-returns-3
 returns-3 c =
-    let start = c .before .before .before .before .before .before .before in
-    is-whole (start .args .s .now) (start .args .at) 34 _ _ (c .before .before .before .before .before .if1 .left)
+    let start = c .before .before .before .before .before .before .before .before in
+    is-whole (start .args .s .now) (start .args .at) 34 _ _ (c .before .before .before .before .before .before .if1 .left)
     (is-clean (c .before .before .before .gauge-fault .result) _ _ _ _ (fault-is (c .before .before .before)) (c .before .before .if2 .left)
     (λ i. Grows ((c .with-year .ensures ∙ ap (withYear (start .args .u)) (whole-ok (c .before .year-at .result) (c .before .year-at .ok) ∙ c .before .year-at .ensures)) i) (start .args .at + 34)))
 
@@ -67,10 +82,12 @@ gauge-step-spec =
     (tie.spec
     sub-if1
     returns
+    add-signed-bits32
+    signed-bits32-requires
     outside-at-requires
     gauge-fault-requires
     returns-2
     year-at-requires
     with-year-requires
-    add-t7
+    add-t8
     returns-3)
