@@ -15,7 +15,6 @@ use record::bits32;
 use record::closing_fault;
 use record::gauge_fault;
 use record::mark_of;
-use record::outside_at;
 use record::rain_fault;
 use record::signed_bits32;
 use record::soil_fault;
@@ -124,7 +123,7 @@ fn gauge_step(s: &[u8], at: usize, u: UnitRecord, units: usize, aquifers: usize)
         };
     }
     let storage = signed_bits32(s, at + 30);
-    let fault = gauge_fault(units, aquifers, u, outside_at(s, at, storage));
+    let fault = gauge_fault(units, aquifers, u, s, at, storage);
     if fault != 0 {
         return Next::Refused {
             number: fault,

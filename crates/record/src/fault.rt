@@ -233,7 +233,7 @@ fn gauge_outside(outflow: u32, inflow: u32, terms: bool, storage: i64) -> bool
 }
 
 // A field of the AF at an offset, whose storage change was read, is outside its values.
-pub fn outside_at(s: &[u8], at: usize, storage: i64) -> bool
+fn outside_at(s: &[u8], at: usize, storage: i64) -> bool
     requires { ⌜ at + 34 ≤ length (now s) ⌝ }
     requires { ⌜ storage ≡ signedBits32 (now s) (at + 30) ⌝ }
     ensures { λ r. ⌜ r ≡ faults.gaugeOutsideAt (now (s .entry)) at ⌝ }
@@ -247,9 +247,18 @@ pub fn outside_at(s: &[u8], at: usize, storage: i64) -> bool
     gauge_outside(bits32(s, at + 2), bits32(s, at + 6), terms, storage)
 }
 
-// An AF: 3, 4 or 5.
-pub fn gauge_fault(units: usize, aquifers: usize, u: UnitRecord, outside: bool) -> u8
-    ensures { λ r. ⌜ r ≡ faults.gaugeFault units aquifers u outside ⌝ }
+// The AF at an offset, whose storage change was read: 3, 4 or 5.
+pub fn gauge_fault(
+    units: usize,
+    aquifers: usize,
+    u: UnitRecord,
+    s: &[u8],
+    at: usize,
+    storage: i64,
+) -> u8
+    requires { ⌜ at + 34 ≤ length (now s) ⌝ }
+    requires { ⌜ storage ≡ signedBits32 (now s) (at + 30) ⌝ }
+    ensures { λ r. ⌜ r ≡ faults.gaugeFault units aquifers u (faults.gaugeOutsideAt (now (s .entry)) at) ⌝ }
 {
     if 0 < aquifers {
         return 3;
@@ -263,7 +272,7 @@ pub fn gauge_fault(units: usize, aquifers: usize, u: UnitRecord, outside: bool) 
     if 50 <= u.years {
         return 4;
     }
-    if outside {
+    if outside_at(s, at, storage) {
         return 5;
     }
     0

@@ -12,7 +12,6 @@ pub use calls::call_at;
 pub use fault::aquifer_fault;
 pub use fault::closing_fault;
 pub use fault::gauge_fault;
-pub use fault::outside_at;
 pub use fault::rain_fault;
 pub use fault::soil_fault;
 pub use fault::unit_fault;
