@@ -15,8 +15,8 @@ use record::bits32;
 use record::closing_fault;
 use record::gauge_fault;
 use record::mark_of;
-use record::outside_at;
 use record::rain_fault;
+use record::signed_bits32;
 use record::soil_fault;
 use record::unit_fault;
 use record::unit_record;
@@ -122,7 +122,8 @@ fn gauge_step(s: &[u8], at: usize, u: UnitRecord, units: usize, aquifers: usize)
             place: at,
         };
     }
-    let fault = gauge_fault(units, aquifers, u, outside_at(s, at));
+    let storage = signed_bits32(s, at + 30);
+    let fault = gauge_fault(units, aquifers, u, s, at, storage);
     if fault != 0 {
         return Next::Refused {
             number: fault,
@@ -130,7 +131,7 @@ fn gauge_step(s: &[u8], at: usize, u: UnitRecord, units: usize, aquifers: usize)
         };
     }
     Next::Grows {
-        unit: with_year(u, year_at(s, at)),
+        unit: with_year(u, year_at(s, at, storage)),
         to: at + 34,
     }
 }

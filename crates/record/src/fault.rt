@@ -6,11 +6,11 @@ ghost use lib.Signed.{ltZ};
 ghost use lib.ListN.{length};
 ghost use Rattle.laws.specs.Signed.{above};
 ghost use Rattle.river.specs.Wells.{recharge};
+ghost use Rattle.record.specs.Bytes.{signedBits32};
 ghost use Rattle.record.specs.Fault as faults;
 ghost use Rattle.record.specs.Fault.{Sane};
 use crate::UnitRecord;
 use crate::bytes::bits32;
-use crate::bytes::signed_bits32;
 use model::Aquifer;
 use model::Balance;
 
@@ -232,9 +232,10 @@ fn gauge_outside(outflow: u32, inflow: u32, terms: bool, storage: i64) -> bool
     storage_outside(storage)
 }
 
-// A field of the AF at an offset is outside its values.
-pub fn outside_at(s: &[u8], at: usize) -> bool
+// A field of the AF at an offset, whose storage change was read, is outside its values.
+fn outside_at(s: &[u8], at: usize, storage: i64) -> bool
     requires { ⌜ at + 34 ≤ length (now s) ⌝ }
+    requires { ⌜ storage ≡ signedBits32 (now s) (at + 30) ⌝ }
     ensures { λ r. ⌜ r ≡ faults.gaugeOutsideAt (now (s .entry)) at ⌝ }
 {
     let extraction = bits32(s, at + 10);
@@ -243,17 +244,21 @@ pub fn outside_at(s: &[u8], at: usize) -> bool
     let returns = bits32(s, at + 22);
     let evaporation = bits32(s, at + 26);
     let terms = terms_outside(extraction, exports, imports, returns, evaporation);
-    gauge_outside(
-        bits32(s, at + 2),
-        bits32(s, at + 6),
-        terms,
-        signed_bits32(s, at + 30),
-    )
+    gauge_outside(bits32(s, at + 2), bits32(s, at + 6), terms, storage)
 }
 
-// An AF: 3, 4 or 5.
-pub fn gauge_fault(units: usize, aquifers: usize, u: UnitRecord, outside: bool) -> u8
-    ensures { λ r. ⌜ r ≡ faults.gaugeFault units aquifers u outside ⌝ }
+// The AF at an offset, whose storage change was read: 3, 4 or 5.
+pub fn gauge_fault(
+    units: usize,
+    aquifers: usize,
+    u: UnitRecord,
+    s: &[u8],
+    at: usize,
+    storage: i64,
+) -> u8
+    requires { ⌜ at + 34 ≤ length (now s) ⌝ }
+    requires { ⌜ storage ≡ signedBits32 (now s) (at + 30) ⌝ }
+    ensures { λ r. ⌜ r ≡ faults.gaugeFault units aquifers u (faults.gaugeOutsideAt (now (s .entry)) at) ⌝ }
 {
     if 0 < aquifers {
         return 3;
@@ -267,7 +272,7 @@ pub fn gauge_fault(units: usize, aquifers: usize, u: UnitRecord, outside: bool) 
     if 50 <= u.years {
         return 4;
     }
-    if outside {
+    if outside_at(s, at, storage) {
         return 5;
     }
     0

@@ -4,6 +4,7 @@ ghost use mathlib.Core.Bool.{true, false};
 ghost use Prim.Native.Nat.{_+_, _≤_};
 ghost use lib.ListN.{length};
 ghost use Rattle.runoff.specs.Soil.{Known};
+ghost use Rattle.record.specs.Bytes.{signedBits32};
 ghost use Rattle.record.specs.Record as records;
 ghost use Rattle.record.specs.Fault.{Sane, Closed, YearRange, gaugeOutsideAt};
 use crate::Mark;
@@ -147,9 +148,10 @@ pub fn with_year(u: UnitRecord, year: i64) -> UnitRecord
     next
 }
 
-// The year of the AF at an offset.
-pub fn year_at(s: &[u8], at: usize) -> i64
+// The year of the AF at an offset, whose storage change was read.
+pub fn year_at(s: &[u8], at: usize, storage: i64) -> i64
     requires { ⌜ at + 34 ≤ length (now s) ⌝ }
+    requires { ⌜ storage ≡ signedBits32 (now s) (at + 30) ⌝ }
     requires { ⌜ gaugeOutsideAt (now s) at ≡ false ⌝ }
     ensures { λ r. ⌜ r ≡ records.gaugeOf (now (s .entry)) at ⌝ }
 {
@@ -160,7 +162,6 @@ pub fn year_at(s: &[u8], at: usize) -> i64
     let imports = bits32(s, at + 18);
     let returns = bits32(s, at + 22);
     let evaporation = bits32(s, at + 26);
-    let storage = signed_bits32(s, at + 30);
     runoff::gauged_year(
         outflow,
         inflow,

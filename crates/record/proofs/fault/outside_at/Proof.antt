@@ -1,7 +1,7 @@
 -- `record::outside_at` meets its contract. Assumes nothing.
 use Prim.Native.Nat.{_+_}
 use mathlib.Core.Path.{_≡_, _∙_}
-use Rattle.laws.proofs.Signs.{whole-ok}
+use Rattle.laws.proofs.Signs.{whole}
 use Rattle.record.specs.Bytes.{bits32}
 use Rattle.record.specs.Fault as faults
 use borrow.Author.Needs.{needs}
@@ -53,12 +53,6 @@ add-bits32-7 c = search needs
 bits32-requires-7 : tie.Need-bits32-requires-7
 bits32-requires-7 c κs = search needs
 
-add-signed-bits32 : tie.Need-add-signed-bits32
-add-signed-bits32 c = search needs
-
-signed-bits32-requires : tie.Need-signed-bits32-requires
-signed-bits32-requires c κs = search needs
-
 gauge-outside-requires : tie.Need-gauge-outside-requires
 gauge-outside-requires c κs = search needs
 
@@ -73,10 +67,11 @@ terms-are c =
 
 returns : tie.Need-returns
 returns c =
+    let start = c .before .before .before .before .before .before .before .before .before .before in
     c .gauge-outside .ensures
     ∙ (λ i.
-    faults.gaugeOutsideBy (c .before .before .before .bits326 .ensures i) (c .before .before .bits327 .ensures i) (terms-are (c .before .before .before .before) i)
-    ((whole-ok (c .before .signed-bits32 .result) (c .before .signed-bits32 .ok) ∙ c .before .signed-bits32 .ensures) i))
+    faults.gaugeOutsideBy (c .before .before .bits326 .ensures i) (c .before .bits327 .ensures i) (terms-are (c .before .before .before) i)
+    ((whole (start .args .storage) (start .fits .storage) ∙ start .pre .1) i))
 
 pub outside-at-spec : {M : Type 1} → statement M
 outside-at-spec =
@@ -97,7 +92,5 @@ outside-at-spec =
     bits32-requires-6
     add-bits32-7
     bits32-requires-7
-    add-signed-bits32
-    signed-bits32-requires
     gauge-outside-requires
     returns)

@@ -1,7 +1,11 @@
 -- `record::year_at` meets its contract. Assumes nothing.
-use mathlib.Core.Path.{_∙_}
+use Prim.Native.Nat.{_+_}
+use mathlib.Core.Path.{_≡_, _∙_}
+use mir.Syntax.{w64}
+use mir.Val.{toZ, ofZ}
 use native.Mathlib.Omega.{arith}
-use Rattle.laws.proofs.Signs.{whole-ok}
+use Rattle.laws.proofs.Signs.{whole, whole-ok}
+use Rattle.record.specs.Bytes.{signedBits32}
 use Rattle.record.proofs.Faults.{inside-at}
 use Rattle.runoff.specs.Year.{gaugedYear}
 use borrow.Author.Needs.{needs}
@@ -50,25 +54,23 @@ add-bits32-7 c = search needs
 bits32-requires-7 : tie.Need-bits32-requires-7
 bits32-requires-7 c κs = search needs
 
-add-signed-bits32 : tie.Need-add-signed-bits32
-add-signed-bits32 c = search needs
-
-signed-bits32-requires : tie.Need-signed-bits32-requires
-signed-bits32-requires c κs = search needs
+storage-is : (c : tie.Start) → toZ w64 (ofZ w64 (c .args .storage)) ≡ signedBits32 (c .args .s .now) (c .args .at + 30)
+storage-is c = whole (c .args .storage) (c .fits .storage) ∙ c .pre .1 .0
 
 gauged-year-requires : tie.Need-gauged-year-requires
 gauged-year-requires c κs =
-    let z = inside-at (c .before .before .before .before .before .before .before .before .before .args .s .now) (c .before .before .before .before .before .before .before .before .before .args .at) (c .before .before .before .before .before .before .before .before .before .pre .1) in
-    rw (whole-ok (c .signed-bits32 .result) (c .signed-bits32 .ok), c .signed-bits32 .ensures)
+    let start = c .before .before .before .before .before .before .before .before in
+    let z = inside-at (start .args .s .now) (start .args .at) (start .pre .1 .1) in
+    rw (storage-is start)
     (record { aboveTo = omega (arith, z .rise); belowTo = omega (arith, z .fall) })
 
 returns : tie.Need-returns
 returns c =
     whole-ok (c .gauged-year .result) (c .gauged-year .ok) ∙ c .gauged-year .ensures
     ∙ (λ i.
-    gaugedYear (c .before .before .before .before .before .before .before .before .bits32 .ensures i) (c .before .before .before .before .before .before .before .bits322 .ensures i) (c .before .before .before .before .before .before .bits323 .ensures i) (c .before .before .before .before .before .bits324 .ensures i)
-    (c .before .before .before .before .bits325 .ensures i) (c .before .before .before .bits326 .ensures i) (c .before .before .bits327 .ensures i)
-    ((whole-ok (c .before .signed-bits32 .result) (c .before .signed-bits32 .ok) ∙ c .before .signed-bits32 .ensures) i))
+    gaugedYear (c .before .before .before .before .before .before .before .bits32 .ensures i) (c .before .before .before .before .before .before .bits322 .ensures i) (c .before .before .before .before .before .bits323 .ensures i) (c .before .before .before .before .bits324 .ensures i)
+    (c .before .before .before .bits325 .ensures i) (c .before .before .bits326 .ensures i) (c .before .bits327 .ensures i)
+    (storage-is (c .before .before .before .before .before .before .before .before .before) i))
 
 pub year-at-spec : {M : Type 1} → statement M
 year-at-spec =
@@ -88,7 +90,5 @@ year-at-spec =
     bits32-requires-6
     add-bits32-7
     bits32-requires-7
-    add-signed-bits32
-    signed-bits32-requires
     gauged-year-requires
     returns)
