@@ -6,7 +6,7 @@ use native.Mathlib.Omega.{arith}
 use Rattle.laws.proofs.Signs.{whole-ok}
 use Rattle.book.specs.declared.Next.the-variants.{Grows}
 use Rattle.record.specs.Record.{withYear}
-use Rattle.record.specs.Fault.{gaugeOutsideAt}
+use Rattle.record.specs.Fault.{gaugeFault, gaugeOutsideAt}
 use Rattle.book.proofs.Steps.{is-short, is-whole, is-faulty, is-clean}
 use Rattle.record.proofs.Faults.{gauge-clean, range-at}
 use borrow.Author.Needs.{needs}
@@ -31,16 +31,21 @@ gauge-fault-requires c κs = (
   whole-ok (c .signed-bits32 .result) (c .signed-bits32 .ok) ∙ c .signed-bits32 .ensures,
 )
 
+fault-is : (c : tie.After-gauge-fault)
+    → c .gauge-fault .result
+    ≡ gaugeFault (c .before .before .before .before .args .units) (c .before .before .before .before .args .aquifers) (c .before .before .before .before .args .u) (gaugeOutsideAt (c .before .before .before .before .args .s .now) (c .before .before .before .before .args .at))
+fault-is c = c .gauge-fault .ensures
+
 inside : (c : tie.Else2) → gaugeOutsideAt (c .before .before .before .before .before .args .s .now) (c .before .before .before .before .before .args .at) ≡ false
 inside c =
     let start = c .before .before .before .before .before in
-    gauge-clean (start .args .units) (start .args .aquifers) (start .args .u) _ (sym (c .before .gauge-fault .ensures) ∙ c .if2 .left) .inside
+    gauge-clean (start .args .units) (start .args .aquifers) (start .args .u) _ (sym (fault-is (c .before)) ∙ c .if2 .left) .inside
 
 returns-2 : tie.Need-returns-2
 returns-2 c =
     let start = c .before .before .before .before .before in
     is-whole (start .args .s .now) (start .args .at) 34 _ _ (c .before .before .before .if1 .left)
-    (is-faulty (c .before .gauge-fault .result) _ _ _ (c .before .gauge-fault .ensures) (c .if2 .taken))
+    (is-faulty (c .before .gauge-fault .result) _ _ _ (fault-is (c .before)) (c .if2 .taken))
 
 year-at-requires : tie.Need-year-at-requires
 year-at-requires c κs = (
@@ -65,7 +70,7 @@ returns-3 : tie.Need-returns-3
 returns-3 c =
     let start = c .before .before .before .before .before .before .before in
     is-whole (start .args .s .now) (start .args .at) 34 _ _ (c .before .before .before .before .before .if1 .left)
-    (is-clean (c .before .before .before .gauge-fault .result) _ _ _ _ (c .before .before .before .gauge-fault .ensures) (c .before .before .if2 .left)
+    (is-clean (c .before .before .before .gauge-fault .result) _ _ _ _ (fault-is (c .before .before .before)) (c .before .before .if2 .left)
     (λ i. Grows ((c .with-year .ensures ∙ ap (withYear (start .args .u)) (whole-ok (c .before .year-at .result) (c .before .year-at .ok) ∙ c .before .year-at .ensures)) i) (start .args .at + 34)))
 
 pub gauge-step-spec : {M : Type 1} → statement M
