@@ -1,15 +1,16 @@
 -- What is worked out over the units of a view alone is the same over the view. Assumes nothing.
 use Prim.Native.Nat.{ℕ, zero, suc, pred, _+_}
-use mathlib.Core.Path.{_≡_, refl, sym, ap, _∙_}
-use mathlib.Core.Bool.{Bool, cond}
+use mathlib.Core.Path.{_≡_, refl, ap, _∙_}
+use mathlib.Core.Bool.{not, cond}
 use lib.Dec.{eqb}
-use lib.IntN.{ℤ}
+use lib.Signed.{nonNeg}
 use Rattle.laws.specs.Signed.{above}
 use Rattle.laws.specs.Sum.{naturals}
 use Rattle.laws.specs.Gather.{arriving}
+use Rattle.model.specs.Answers.{first}
 use Rattle.model.specs.View.{View}
-use Rattle.river.specs.Flow.{downstream, flow, gathered, Ready}
-use Rattle.river.specs.Reserve.{inflow, runningTotal, total, demand, share, shareAbove, shareOwn, committedTo, committed, ownReserve}
+use Rattle.river.specs.Flow.{downstream, flow, Ready}
+use Rattle.river.specs.Reserve.{inflow, runningTotal, demand, share, shareAbove, shareOwn, committedTo, committed, ownReserve}
 use Rattle.river.specs.Units.{alone}
 
 pub ready-alone : (v : View) → Ready v → Ready (alone v)
@@ -27,9 +28,10 @@ pub flow-alone : (v : View) (j : ℕ) → flow (alone v) j ≡ flow v j
 unfolding flow
 flow-alone v j = refl
 
-pub gathered-alone : (v : View) (lost : Bool) (j : ℕ) → gathered (alone v) lost j ≡ gathered v lost j
-unfolding gathered
-gathered-alone v lost j = refl
+-- The lowest-numbered unit with a negative flow.
+pub negative-alone : (v : View)
+    → first (v .units) (λ j. not (nonNeg (flow (alone v) j))) ≡ first (v .units) (λ j. not (nonNeg (flow v j)))
+negative-alone v = λ i. first (v .units) (λ j. not (nonNeg (flow-alone v j i)))
 
 running-alone : (v : View) (w j : ℕ) → runningTotal (alone v) w j ≡ runningTotal v w j
 running-alone v w j = λ i. arriving naturals (downstream v) (λ k. above (flow-alone v k i)) j w
