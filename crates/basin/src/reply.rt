@@ -46,9 +46,13 @@ pub fn figures(b: Balance) -> Figures
             aquifers: no_aquifers(),
         };
     }
+    let n = b.unit_count;
+    let m = b.aquifer_count;
+    let units = b.units;
+    let aquifers = b.aquifers;
     Figures {
         answer: Answer::Accepted,
-        units: figures::unit_figures(b),
-        aquifers: figures::aquifer_figures(b),
+        units: figures::unit_figures(units, n),
+        aquifers: figures::aquifer_figures(aquifers, m),
     }
 }

@@ -53,7 +53,7 @@ pub fn sound(b: Balance) -> bool
     if !aquifers_hold(aquifers, m, &sums.wells) {
         return false;
     }
-    let found = river::first_negative(b);
+    let found = river::first_negative(units, n);
     match found {
         Found::At(_) => false,
         Found::Nothing => true,

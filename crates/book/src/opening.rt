@@ -80,7 +80,8 @@ fn tested(b: Balance, at: usize) -> Opened
     if let Found::At(j) = missing {
         return refused(8, j + 1);
     }
-    let negative = river::first_negative(b);
+    let units = b.units;
+    let negative = river::first_negative(units, b.unit_count);
     if let Found::At(j) = negative {
         return refused(10, j + 1);
     }

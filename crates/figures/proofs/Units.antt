@@ -4,13 +4,16 @@ use mathlib.Core.Path.{_≡_, sym, _∙_}
 use mathlib.Core.Bool.{true, false}
 use native.Mathlib.Omega.{arith}
 use lib.IntN.{pos, _-ℤ_}
+use Rattle.laws.specs.Table.{table}
 use Rattle.laws.proofs.Parts.{less-is, less-pos, less-minus, less-equal}
 use Rattle.figures.specs.declared.UnitFigures.{UnitFigures}
-use Rattle.figures.specs.Figures.{unitFigures, figuresFrom}
+use Rattle.figures.specs.Figures.{unitFigures, noUnitFigures, figuresFrom, allUnitFigures}
 use Rattle.model.specs.View.{View}
 use Rattle.river.specs.Flow.{flow, gathered}
 use Rattle.river.specs.Reserve.{runningTotal, committed, ownReserve}
+use Rattle.river.specs.Units.{alone}
 use Rattle.river.proofs.Flows.{flow-parts}
+use Rattle.river.proofs.Units.{flow-alone, committed-alone, reserve-alone}
 
 -- The figures of a unit from what is gained and lost at it and above it are those that the definitions give.
 figures-are : (v : View) (j : ℕ)
@@ -33,3 +36,15 @@ pub figures-from : (v : View) (j g l a c : ℕ) (x : UnitFigures)
     → x ≡ figuresFrom (v .unit j) g l a c → x ≡ unitFigures v j
 figures-from v j g l a c x eg el ea ec e =
     e ∙ (λ i. figuresFrom (v .unit j) (eg i) (el i) (ea i) (ec i)) ∙ figures-are v j
+
+-- The figures over the units of a view alone are those over the view.
+pub figures-alone : (v : View) → allUnitFigures (alone v) ≡ allUnitFigures v
+figures-alone v = λ i.
+    table 64 noUnitFigures (v .units)
+    (λ j.
+    record {
+      flow = flow-alone v j i;
+      committed = committed-alone v j i;
+      reserve = reserve-alone v j i;
+      availability = flow-alone v j i -ℤ pos (committed-alone v j i);
+    })

@@ -1,10 +1,12 @@
 -- The figures of a unit and of an aquifer. Assumes nothing.
 use Prim.Native.Nat.{ℕ, _+_, _≤_, _<_}
 use lib.IntN.{pos, _-ℤ_}
+use lib.ListN.{getD}
 use Rattle.laws.specs.Signed.{above, below}
 use Rattle.laws.specs.Table.{table}
 use Rattle.model.specs.declared.Aquifer.{Aquifer}
 use Rattle.model.specs.declared.Unit.{Unit}
+use Rattle.model.specs.Fresh.{emptyUnit, emptyAquifer, emptyPlace}
 use Rattle.model.specs.View.{View}
 use Rattle.river.specs.Flow.{flow}
 use Rattle.river.specs.Reserve.{committed, ownReserve, availability}
@@ -54,3 +56,15 @@ pub record WellsReady (v : View) : Type 0 where
   pub few : v .aquifers ≤ 32
   pub rises : (k : ℕ) → k < v .aquifers → above (v .aquifer k .storage) ≤ 10000000
   pub falls : (k : ℕ) → k < v .aquifers → below (v .aquifer k .storage) ≤ 10000000
+
+-- The view of aquifers alone: no units and no titles.
+abbrev pub aquifersView : List Aquifer → ℕ → View
+aquifersView ws n =
+    record {
+      units = 0;
+      unit = λ k. emptyUnit;
+      aquifers = n;
+      aquifer = λ k. getD ws k emptyAquifer;
+      given = 0;
+      place = λ k. emptyPlace;
+    }

@@ -2,15 +2,14 @@
 ghost use mathlib.Core.Path.{_≡_};
 ghost use Prim.Native.Nat.{_≤_};
 ghost use Rattle.laws.specs.Signed.{above, below};
-ghost use Rattle.model.specs.View.{viewOf};
 ghost use Rattle.river.specs.Flow.{Ready};
 ghost use Rattle.river.specs.Passes.{Splits};
+ghost use Rattle.river.specs.Units.{unitsView};
 ghost use Rattle.figures.specs.Figures as figures;
-ghost use Rattle.figures.specs.Figures.{figuresFrom};
+ghost use Rattle.figures.specs.Figures.{figuresFrom, aquifersView};
 use crate::AquiferFigures;
 use crate::UnitFigures;
 use model::Aquifer;
-use model::Balance;
 use model::Unit;
 use river::committed;
 use river::flow_amounts;
@@ -33,15 +32,14 @@ fn of_unit(u: Unit, gained: u64, lost: u64, arrived: u64, committed: u64) -> Uni
     }
 }
 
-// The figures of every unit of a balance whose passes over the tree are safe: forward for the flows, backward for the committed volumes, and
+// The figures of each of n units whose passes over the tree are safe: forward for the flows, backward for the committed volumes, and
 // then each unit's figures.
-pub fn unit_figures(b: Balance) -> [UnitFigures; 64]
-    requires { ⌜ Ready (viewOf b) ⌝ }
-    ensures { λ r. ⌜ r ≡ figures.allUnitFigures (viewOf b) ⌝ }
+pub fn unit_figures(units: [Unit; 64], n: usize) -> [UnitFigures; 64]
+    requires { ⌜ Ready (unitsView units n) ⌝ }
+    ensures { λ r. ⌜ r ≡ figures.allUnitFigures (unitsView units n) ⌝ }
 {
-    let n = b.unit_count;
-    let f = flow_amounts(b);
-    let volumes = committed(b, f);
+    let f = flow_amounts(units, n);
+    let volumes = committed(units, n, f);
     let none = UnitFigures {
         flow: 0,
         committed: 0,
@@ -51,7 +49,7 @@ pub fn unit_figures(b: Balance) -> [UnitFigures; 64]
     let mut all = [none; 64];
     let mut i = 0;
     while i < n {
-        let u = b.units[i];
+        let u = units[i];
         let x = of_unit(u, f.gained[i], f.lost[i], f.arrived[i], volumes[i]);
         all[i] = x;
         i += 1;
@@ -77,12 +75,11 @@ pub fn of_aquifer(a: Aquifer) -> AquiferFigures
     }
 }
 
-// The figures of every aquifer of a balance.
-pub fn aquifer_figures(b: Balance) -> [AquiferFigures; 32]
-    requires { ⌜ figures.WellsReady (viewOf b) ⌝ }
-    ensures { λ r. ⌜ r ≡ figures.allAquiferFigures (viewOf b) ⌝ }
+// The figures of each of n aquifers.
+pub fn aquifer_figures(aquifers: [Aquifer; 32], n: usize) -> [AquiferFigures; 32]
+    requires { ⌜ figures.WellsReady (aquifersView aquifers n) ⌝ }
+    ensures { λ r. ⌜ r ≡ figures.allAquiferFigures (aquifersView aquifers n) ⌝ }
 {
-    let n = b.aquifer_count;
     let none = AquiferFigures {
         recharge: 0,
         availability: 0,
@@ -90,7 +87,7 @@ pub fn aquifer_figures(b: Balance) -> [AquiferFigures; 32]
     let mut all = [none; 32];
     let mut i = 0;
     while i < n {
-        let a = b.aquifers[i];
+        let a = aquifers[i];
         let f = of_aquifer(a);
         all[i] = f;
         i += 1;

@@ -1,22 +1,21 @@
 // Which units lie below a unit.
 ghost use mathlib.Core.Path.{_≡_};
 ghost use Prim.Native.Nat.{_≤_, _<_};
-ghost use Rattle.model.specs.View.{viewOf};
 ghost use Rattle.river.specs.Flow.{Ready};
+ghost use Rattle.river.specs.Units.{unitsView};
 ghost use Rattle.reach.specs.Reach.{liesBelow};
 ghost use Rattle.reach.specs.Passes.{DownstreamNumbers, TreeNumbers, listed, belowBy};
-use model::Balance;
+use model::Unit;
 
 // The downstream number of each unit, and 0 in the unused places.
-pub fn downs(b: Balance) -> [u8; 64]
-    requires { ⌜ viewOf b .units ≤ 64 ⌝ }
-    ensures { λ r. ⌜ DownstreamNumbers (viewOf b) r ⌝ }
+pub fn downs(units: [Unit; 64], n: usize) -> [u8; 64]
+    requires { ⌜ n ≤ 64 ⌝ }
+    ensures { λ r. ⌜ DownstreamNumbers (unitsView units n) r ⌝ }
 {
-    let n = b.unit_count;
     let mut down = [0u8; 64];
     let mut i = 0;
     while i < n {
-        let u = b.units[i];
+        let u = units[i];
         down[i] = u.downstream;
         i += 1;
     }
@@ -40,10 +39,10 @@ fn below_from(down: &[u8; 64], u: usize, w: usize) -> bool
 }
 
 // Whether the unit at index w lies below the unit at index u.
-pub fn lies_below(b: Balance, u: usize, w: usize) -> bool
-    requires { ⌜ Ready (viewOf b) × (u < viewOf b .units) ⌝ }
-    ensures { λ r. ⌜ r ≡ liesBelow (viewOf b) u w ⌝ }
+pub fn lies_below(units: [Unit; 64], n: usize, u: usize, w: usize) -> bool
+    requires { ⌜ Ready (unitsView units n) × (u < n) ⌝ }
+    ensures { λ r. ⌜ r ≡ liesBelow (unitsView units n) u w ⌝ }
 {
-    let down = downs(b);
+    let down = downs(units, n);
     below_from(&down, u, w)
 }

@@ -1,3 +1,4 @@
 pub mod Negative
 pub mod Granting
 pub mod Wanting
+pub mod Giving

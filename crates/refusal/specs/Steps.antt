@@ -25,6 +25,20 @@ earlyNumber v (UnitTransfer g r x) =
 earlyNumber v (AquiferTransfer a u x) =
     cond (exists (v .aquifers) a && exists (v .units) u) (volumeNumber (v .given) x (overfull v (AquiferTransfer a u x))) 12
 
+-- The number of the unit that gives, 0 where an aquifer gives.
+abbrev pub givingUnit : Title → ℕ
+givingUnit (UnitWithdrawal u r x) = u
+givingUnit (AquiferWithdrawal a x) = 0
+givingUnit (UnitTransfer g r x) = g
+givingUnit (AquiferTransfer a u x) = 0
+
+-- The number of the aquifer that gives, 0 where a unit gives.
+abbrev pub givingAquifer : Title → ℕ
+givingAquifer (UnitWithdrawal u r x) = 0
+givingAquifer (AquiferWithdrawal a x) = a
+givingAquifer (UnitTransfer g r x) = 0
+givingAquifer (AquiferTransfer a u x) = a
+
 -- The counts of a balance are within their arrays.
 pub record Bounded (b : Balance) : Type 0 where
   pub units : b .«unit_count» ≤ 64

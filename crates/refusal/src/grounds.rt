@@ -5,6 +5,7 @@ ghost use Prim.Native.Nat.{_≤_, _<_, _+_};
 ghost use Rattle.model.specs.View.{viewOf};
 ghost use Rattle.model.specs.declared.Title.the-variants.{UnitWithdrawal, AquiferWithdrawal, UnitTransfer, AquiferTransfer};
 ghost use Rattle.river.specs.Flow.{Ready};
+ghost use Rattle.river.specs.Units.{unitsView};
 ghost use Rattle.refusal.specs.Grant as grants;
 ghost use Rattle.refusal.specs.Steps as steps;
 ghost use Rattle.refusal.specs.Steps.{Bounded};
@@ -12,6 +13,7 @@ use basin::exists;
 use basin::is_volume;
 use model::Balance;
 use model::Title;
+use model::Unit;
 
 // An entry that would pass 10,000,000.
 fn past(entry: u32, more: u32) -> bool
@@ -101,16 +103,16 @@ fn bringing_number(b: Balance, aquifer: u8, unit: u8, volume: u32) -> u8
 }
 
 // 18 same unit, or the receiver lies below the giver.
-fn is_downstream(b: Balance, from: u8, to: u8) -> bool
-    requires { ⌜ Ready (viewOf b) × (0 < from) × (from ≤ viewOf b .units) × (0 < to) ⌝ }
-    ensures { λ r. ⌜ r ≡ grants.downstreamTransfer (viewOf b) from to ⌝ }
+fn is_downstream(units: [Unit; 64], n: usize, from: u8, to: u8) -> bool
+    requires { ⌜ Ready (unitsView units n) × (0 < from) × (from ≤ n) × (0 < to) ⌝ }
+    ensures { λ r. ⌜ r ≡ grants.downstreamTransfer (unitsView units n) from to ⌝ }
 {
     if from == to {
         return true;
     }
     let g = (from as usize) - 1;
     let k = (to as usize) - 1;
-    reach::lies_below(b, g, k)
+    reach::lies_below(units, n, g, k)
 }
 
 // TU: 12, 18, 14 to 16.
@@ -120,7 +122,8 @@ fn transfer_number(b: Balance, from: u8, to: u8, volume: u32) -> u8
 {
     if exists(b.unit_count, from) {
         if exists(b.unit_count, to) {
-            if is_downstream(b, from, to) {
+            let units = b.units;
+            if is_downstream(units, b.unit_count, from, to) {
                 return 18;
             }
             let g = (from as usize) - 1;

@@ -1,14 +1,21 @@
 // 17 no water, in a balance with the title in.
 ghost use mathlib.Core.Path.{_≡_};
+ghost use mathlib.Core.Bool.{not};
+ghost use lib.Signed.{nonNeg};
 ghost use Prim.Native.Nat.{_≤_, _<_};
+ghost use Rattle.laws.specs.Signed.{above, below};
 ghost use Rattle.model.specs.View.{viewOf};
 ghost use Rattle.river.specs.Flow.{Ready};
+ghost use Rattle.river.specs.Units.{unitsView};
+ghost use Rattle.river.specs.Wells.{wellAvailability};
 ghost use Rattle.figures.specs.Figures.{WellsReady};
 ghost use Rattle.refusal.specs.Grant as grants;
 ghost use Rattle.effect.specs.Granted.{Named};
 ghost use Rattle.refusal.specs.Steps as steps;
+use model::Aquifer;
 use model::Balance;
 use model::Title;
+use model::Unit;
 
 // A unit of an outlet's basin with a negative flow or a negative availability: with what is committed it loses more than it gains.
 fn wanting(end: usize, outlet: usize, gained: u64, lost: u64, committed: u64) -> bool
@@ -22,15 +29,14 @@ fn wanting(end: usize, outlet: usize, gained: u64, lost: u64, committed: u64) ->
 }
 
 // The outlet of the unit at an index, or some unit that drains there, has a negative flow or a negative availability.
-fn dry(b: Balance, j: usize) -> bool
-    requires { ⌜ Ready (viewOf b) × (j < viewOf b .units) ⌝ }
-    ensures { λ r. ⌜ r ≡ grants.dry (viewOf b) j ⌝ }
+fn dry(units: [Unit; 64], n: usize, j: usize) -> bool
+    requires { ⌜ Ready (unitsView units n) × (j < n) ⌝ }
+    ensures { λ r. ⌜ r ≡ grants.dry (unitsView units n) j ⌝ }
 {
-    let f = river::flow_amounts(b);
-    let volumes = river::committed(b, f);
-    let ends = reach::outlets(b);
+    let f = river::flow_amounts(units, n);
+    let volumes = river::committed(units, n, f);
+    let ends = reach::outlets(units, n);
     let outlet = ends[j];
-    let n = b.unit_count;
     let mut i = 0;
     while i < n {
         if wanting(ends[i], outlet, f.gained[i], f.lost[i], volumes[i]) {
@@ -41,14 +47,64 @@ fn dry(b: Balance, j: usize) -> bool
     false
 }
 
-// The aquifer at an index has a negative availability.
-fn drained(b: Balance, k: usize) -> bool
-    requires { ⌜ WellsReady (viewOf b) × (k < viewOf b .aquifers) ⌝ }
-    ensures { λ r. ⌜ r ≡ grants.drained (viewOf b) k ⌝ }
+// An aquifer with a negative availability.
+fn drained(a: Aquifer) -> bool
+    requires { ⌜ (above (a .storage) ≤ 10000000) × (below (a .storage) ≤ 10000000) ⌝ }
+    ensures { λ r. ⌜ r ≡ not (nonNeg (wellAvailability a)) ⌝ }
 {
-    let a = b.aquifers[k];
     let w = figures::of_aquifer(a);
     w.availability < 0
+}
+
+// The number of the unit that gives, 0 where an aquifer gives.
+fn giving_unit(t: Title) -> u8
+    ensures { λ r. ⌜ r ≡ steps.givingUnit t ⌝ }
+{
+    match t {
+        Title::UnitWithdrawal {
+            unit,
+            usage: _,
+            volume: _,
+        } => unit,
+        Title::AquiferWithdrawal {
+            aquifer: _,
+            volume: _,
+        } => 0,
+        Title::UnitTransfer {
+            from,
+            to: _,
+            volume: _,
+        } => from,
+        Title::AquiferTransfer {
+            aquifer: _,
+            unit: _,
+            volume: _,
+        } => 0,
+    }
+}
+
+// The number of the aquifer that gives, 0 where a unit gives.
+fn giving_aquifer(t: Title) -> u8
+    ensures { λ r. ⌜ r ≡ steps.givingAquifer t ⌝ }
+{
+    match t {
+        Title::UnitWithdrawal {
+            unit: _,
+            usage: _,
+            volume: _,
+        } => 0,
+        Title::AquiferWithdrawal { aquifer, volume: _ } => aquifer,
+        Title::UnitTransfer {
+            from: _,
+            to: _,
+            volume: _,
+        } => 0,
+        Title::AquiferTransfer {
+            aquifer,
+            unit: _,
+            volume: _,
+        } => aquifer,
+    }
 }
 
 // No water for a title that is in: in the outlet basin of the unit that gives, or in the aquifer that gives.
@@ -56,22 +112,13 @@ pub fn no_water(b: Balance, t: Title) -> bool
     requires { ⌜ Ready (viewOf b) × WellsReady (viewOf b) × Named (viewOf b) t ⌝ }
     ensures { λ r. ⌜ r ≡ grants.noWater (viewOf b) t ⌝ }
 {
-    match t {
-        Title::UnitWithdrawal {
-            unit,
-            usage: _,
-            volume: _,
-        } => dry(b, (unit as usize) - 1),
-        Title::AquiferWithdrawal { aquifer, volume: _ } => drained(b, (aquifer as usize) - 1),
-        Title::UnitTransfer {
-            from,
-            to: _,
-            volume: _,
-        } => dry(b, (from as usize) - 1),
-        Title::AquiferTransfer {
-            aquifer,
-            unit: _,
-            volume: _,
-        } => drained(b, (aquifer as usize) - 1),
+    let u = giving_unit(t) as usize;
+    if 0 < u {
+        let units = b.units;
+        let n = b.unit_count;
+        return dry(units, n, u - 1);
     }
+    let k = (giving_aquifer(t) as usize) - 1;
+    let a = b.aquifers[k];
+    drained(a)
 }

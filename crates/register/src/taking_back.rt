@@ -52,7 +52,8 @@ fn release(b: Balance, number: u16) -> Reply
 {
     let _ = sized(b);
     let new = without(b, number);
-    match river::first_negative(new) {
+    let units = new.units;
+    match river::first_negative(units, new.unit_count) {
         Found::Nothing => Reply {
             answer: Answer::Accepted,
             number,

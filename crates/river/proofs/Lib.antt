@@ -2,3 +2,4 @@ pub mod Flows
 pub mod Reserves
 pub mod Firsts
 pub mod Carried
+pub mod Units

@@ -3,3 +3,4 @@ pub mod Flow
 pub mod Reserve
 pub mod Wells
 pub mod Passes
+pub mod Units

@@ -1,13 +1,12 @@
 // Flow: what each unit gains and loses, gathered down the tree.
 ghost use mathlib.Core.Path.{_≡_};
 ghost use mathlib.Core.Bool.{true, false};
-ghost use Rattle.model.specs.View.{viewOf};
 ghost use Rattle.river.specs.Flow as river;
 ghost use Rattle.river.specs.Flow.{Ready, Gathered};
 ghost use Rattle.river.specs.Passes.{RunningTotals};
+ghost use Rattle.river.specs.Units.{unitsView};
 use crate::Amounts;
 use crate::reserve::contribution;
-use model::Balance;
 use model::Unit;
 
 // What a unit gains: natural runoff, returns, imports and the fall of its storage.
@@ -30,20 +29,19 @@ pub fn loss(u: Unit) -> u64
 
 // Forward over the units: all that is gained and lost at each unit and above it goes on to its downstream unit, and its contribution is
 // added to what has arrived there.
-pub fn flow_amounts(b: Balance) -> Amounts
-    requires { ⌜ Ready (viewOf b) ⌝ }
-    ensures { λ r. ⌜ Gathered (viewOf b) false (r .gained) ⌝ }
-    ensures { λ r. ⌜ Gathered (viewOf b) true (r .lost) ⌝ }
-    ensures { λ r. ⌜ RunningTotals (viewOf b) (r .before) (r .arrived) ⌝ }
+pub fn flow_amounts(units: [Unit; 64], n: usize) -> Amounts
+    requires { ⌜ Ready (unitsView units n) ⌝ }
+    ensures { λ r. ⌜ Gathered (unitsView units n) false (r .gained) ⌝ }
+    ensures { λ r. ⌜ Gathered (unitsView units n) true (r .lost) ⌝ }
+    ensures { λ r. ⌜ RunningTotals (unitsView units n) (r .before) (r .arrived) ⌝ }
 {
-    let n = b.unit_count;
     let mut gained = [0u64; 64];
     let mut lost = [0u64; 64];
     let mut before = [0u64; 64];
     let mut arrived = [0u64; 64];
     let mut i = 0;
     while i < n {
-        let u = b.units[i];
+        let u = units[i];
         let more = gained[i] + gain(u);
         let less = lost[i] + loss(u);
         gained[i] = more;

@@ -1,14 +1,13 @@
 // Committed volume and own reserve: a demand split over running totals.
 ghost use mathlib.Core.Path.{_≡_};
 ghost use Prim.Native.Nat.{_+_, _-_, _≤_, _<_};
-ghost use Rattle.model.specs.View.{viewOf};
 ghost use Rattle.river.specs.Flow.{Ready, Gathered};
 ghost use Rattle.river.specs.Reserve as reserves;
 ghost use Rattle.river.specs.Passes.{RunningTotals, CommittedVolumes, Splits, fromBelow, fromOwn};
+ghost use Rattle.river.specs.Units.{unitsView};
 ghost use mathlib.Core.Bool.{true, false, cond};
 ghost use lib.Dec.{eqb};
 use crate::Amounts;
-use model::Balance;
 use model::Unit;
 
 // What a unit contributes to its downstream unit: its flow, or 0 where that is negative.
@@ -84,22 +83,22 @@ pub fn from_own(u: Unit, committed: u64, arrived: u64) -> u64
 }
 
 // Backward over the units: an outlet's committed volume is its commitment, another unit's is its share of the demand below.
-pub fn committed(b: Balance, f: Amounts) -> [u64; 64]
-    requires { ⌜ Ready (viewOf b) ⌝ }
-    requires { ⌜ Gathered (viewOf b) false (f .gained) ⌝ }
-    requires { ⌜ Gathered (viewOf b) true (f .lost) ⌝ }
-    requires { ⌜ RunningTotals (viewOf b) (f .before) (f .arrived) ⌝ }
-    ensures { λ r. ⌜ CommittedVolumes (viewOf b) r ⌝ }
+pub fn committed(units: [Unit; 64], n: usize, f: Amounts) -> [u64; 64]
+    requires { ⌜ Ready (unitsView units n) ⌝ }
+    requires { ⌜ Gathered (unitsView units n) false (f .gained) ⌝ }
+    requires { ⌜ Gathered (unitsView units n) true (f .lost) ⌝ }
+    requires { ⌜ RunningTotals (unitsView units n) (f .before) (f .arrived) ⌝ }
+    ensures { λ r. ⌜ CommittedVolumes (unitsView units n) r ⌝ }
 {
     let mut volumes = [0u64; 64];
-    let mut i = b.unit_count;
+    let mut i = n;
     while 0 < i {
         i -= 1;
-        let u = b.units[i];
+        let u = units[i];
         let d = u.downstream as usize;
         if 0 < d {
             let k = d - 1;
-            let w = b.units[k];
+            let w = units[k];
             let own = contribution(f.gained[i], f.lost[i]);
             volumes[i] = from_below(w, volumes[k], f.arrived[k], f.before[i], own);
         } else {

@@ -3,6 +3,9 @@ use mathlib.Core.Path.{_≡_, sym, _∙_}
 use mathlib.Core.Bool.{true}
 use borrow.Author.Tests.{not-true, not-false}
 use Rattle.model.specs.View.{viewOf}
+use Rattle.river.proofs.Units.{ready-alone}
+use Rattle.figures.proofs.Units.{figures-alone}
+use Rattle.figures.proofs.Aquifers.{wells-alone}
 use Rattle.basin.specs.Sound.{sound}
 use Rattle.basin.proofs.Soundness.{sound-ready, sound-wells-ready}
 use Rattle.basin.proofs.Replies.{refused-reply, accepted-reply}
@@ -28,13 +31,16 @@ is-sound : (c : tie.Else1) → sound (viewOf (c .before .before .args .b)) ≡ t
 is-sound c = sym (c .before .sound .ensures) ∙ not-false _ (c .if1 .left)
 
 unit-figures-requires : tie.Need-unit-figures-requires
-unit-figures-requires c κs = sound-ready _ (is-sound c)
+unit-figures-requires c κs = ready-alone _ (sound-ready _ (is-sound (c .before .before)))
 
 aquifer-figures-requires : tie.Need-aquifer-figures-requires
-aquifer-figures-requires c κs = sound-wells-ready _ (is-sound (c .before))
+aquifer-figures-requires c κs =
+    let else = c .before .before .before in
+    wells-alone (else .before .before .args .b) (sound-wells-ready _ (is-sound else))
 
 returns-2 : tie.Need-returns-2
-returns-2 c = accepted-reply _ _ _ (is-sound (c .before .before)) (c .before .unit-figures .ensures) (c .aquifer-figures .ensures)
+returns-2 c =
+    accepted-reply _ _ _ (is-sound (c .before .before .before .before)) (c .before .unit-figures .ensures ∙ figures-alone _) (c .aquifer-figures .ensures)
 
 pub figures-spec : {M : Type 1} → statement M
 figures-spec =

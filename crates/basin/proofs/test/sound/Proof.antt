@@ -8,6 +8,7 @@ use borrow.Author.Tests.{leb-true}
 use Rattle.laws.proofs.Every.{both, every-each}
 use Rattle.model.specs.View.{View, viewOf}
 use Rattle.river.proofs.Firsts.{nothing-every, at-fails}
+use Rattle.river.proofs.Units.{ready-alone, negative-alone}
 use Rattle.basin.specs.Sound.{soundCounts, soundTitles, soundUnits}
 use Rattle.basin.proofs.Chains.{stop-call, go-call, call-holds}
 use Rattle.basin.proofs.Order.{unitsHold, aquifersHold, units-hold, aquifers-hold, in-order}
@@ -106,8 +107,8 @@ first-negative-requires c κs =
     let v = all-held c in
     let h = c .before .before .before .before .before in
     let p = both (soundUnits v) _ (call-holds (units-tested (h .before)) (h .if3 .left)) in
-    ready-of v (few (h .before .before .before .before .before .before .before .before .before .before .before .before) .units)
-    (λ j g. unit-sound (v .units) j (v .unit j) (every-each _ (v .units) (p .0) j g))
+    ready-alone v (ready-of v (few (h .before .before .before .before .before .before .before .before .before .before .before .before) .units)
+    (λ j g. unit-sound (v .units) j (v .unit j) (every-each _ (v .units) (p .0) j g)))
 
 enum-told : tie.Need-enum-told
 enum-told c = search needs
@@ -118,12 +119,12 @@ enum-told-2 c = search needs
 returns-5 : tie.Need-returns-5
 returns-5 c =
     in-order _ _
-    (past-aquifers (c .before .before .before) _ _ (sym (at-fails _ _ _ (sym (c .before .before .first-negative .ensures) ∙ c .enum-told .given .1))))
+    (past-aquifers (c .before .before .before) _ _ (sym (at-fails _ _ _ (sym (negative-alone (all-held (c .before .before .before))) ∙ sym (c .before .before .first-negative .ensures) ∙ c .enum-told .given .1))))
 
 returns-6 : tie.Need-returns-6
 returns-6 c =
     in-order _ _
-    (past-aquifers (c .before .before .before) _ _ (sym (nothing-every _ _ (sym (c .before .before .first-negative .ensures) ∙ c .enum-told2 .given .1))))
+    (past-aquifers (c .before .before .before) _ _ (sym (nothing-every _ _ (sym (negative-alone (all-held (c .before .before .before))) ∙ sym (c .before .before .first-negative .ensures) ∙ c .enum-told2 .given .1))))
 
 pub sound-spec : {M : Type 1} → statement M
 sound-spec =

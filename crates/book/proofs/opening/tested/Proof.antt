@@ -2,6 +2,7 @@
 use mathlib.Core.Path.{sym, _∙_}
 use native.Mathlib.Omega.{arith}
 use Rattle.model.specs.View.{viewOf}
+use Rattle.river.proofs.Units.{ready-alone, negative-alone}
 use Rattle.book.proofs.Ending.{ready-of, missing-below, negative-below, tested-missing, tested-negative, tested-accepted}
 use borrow.Author.Needs.{needs}
 use Rattle.book.proofs.opening.tested.Statement.{statement}
@@ -26,30 +27,40 @@ enum-told : tie.Need-enum-told
 enum-told c = search needs
 
 first-negative-requires : tie.Need-first-negative-requires
-first-negative-requires c κs = ready-of _ (c .before .before .before .pre) (sym (c .before .before .first-missing .ensures) ∙ c .enum-told .given .1)
+first-negative-requires c κs =
+    ready-alone _ (ready-of _ (c .before .before .before .before .pre) (sym (c .before .before .before .first-missing .ensures) ∙ c .before .enum-told .given .1))
 
 enum-known-negative : tie.Need-enum-known-negative
 enum-known-negative c = search needs
 
 add-refused-2 : tie.Need-add-refused-2
-add-refused-2 c = omega (arith, negative-below (viewOf (c .before .before .before .before .before .before .before .args .b)) _ (sym (c .before .before .before .first-negative .ensures) ∙ c .before .negative .given .1), c .before .before .before .before .before .before .before .pre .few)
+add-refused-2 c =
+    let start = c .before .before .before .before .before .before .before .before in
+    let v = viewOf (start .args .b) in
+    omega (
+      arith,
+      negative-below v _ (sym (negative-alone v) ∙ sym (c .before .before .before .first-negative .ensures) ∙ c .before .negative .given .1),
+      start .pre .few,
+    )
 
 refused-requires-2 : tie.Need-refused-requires-2
 refused-requires-2 c κs = search needs
 
 returns-2 : tie.Need-returns-2
 returns-2 c =
+    let start = c .before .before .before .before .before .before .before .before .before in
     c .refused2 .ensures
-    ∙ tested-negative (c .before .before .before .before .before .before .before .before .args .b) (c .before .before .before .before .before .before .before .before .args .at) _ (sym (c .before .before .before .before .before .before .before .first-missing .ensures) ∙ c .before .before .before .before .before .enum-told .given .1)
-    (sym (c .before .before .before .before .first-negative .ensures) ∙ c .before .before .negative .given .1)
+    ∙ tested-negative (start .args .b) (start .args .at) _ (sym (c .before .before .before .before .before .before .before .before .first-missing .ensures) ∙ c .before .before .before .before .before .before .enum-told .given .1)
+    (sym (negative-alone (viewOf (start .args .b))) ∙ sym (c .before .before .before .before .first-negative .ensures) ∙ c .before .before .negative .given .1)
 
 enum-told-2 : tie.Need-enum-told-2
 enum-told-2 c = search needs
 
 returns-3 : tie.Need-returns-3
 returns-3 c =
-    tested-accepted (c .before .before .before .before .before .before .args .b) (c .before .before .before .before .before .before .args .at) (sym (c .before .before .before .before .before .first-missing .ensures) ∙ c .before .before .before .enum-told .given .1)
-    (sym (c .before .before .first-negative .ensures) ∙ c .enum-told2 .given .1)
+    let start = c .before .before .before .before .before .before .before in
+    tested-accepted (start .args .b) (start .args .at) (sym (c .before .before .before .before .before .before .first-missing .ensures) ∙ c .before .before .before .before .enum-told .given .1)
+    (sym (negative-alone (viewOf (start .args .b))) ∙ sym (c .before .before .first-negative .ensures) ∙ c .enum-told2 .given .1)
 
 pub tested-spec : {M : Type 1} → statement M
 tested-spec =

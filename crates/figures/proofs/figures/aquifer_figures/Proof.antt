@@ -5,17 +5,16 @@ use native.Mathlib.Omega.{arith}
 use native.Mathlib.Numerals.{add-one}
 use borrow.Author.Count.{falls}
 use Rattle.laws.proofs.Arrays.{Filled, filled-start, filled-put, filled-table}
-use Rattle.model.specs.View.{viewOf}
-use Rattle.figures.specs.Figures.{aquiferFigures, noAquiferFigures}
+use Rattle.figures.specs.Figures.{aquifersView, aquiferFigures, noAquiferFigures}
 use Rattle.figures.proofs.figures.aquifer_figures.Statement.{statement}
 use Rattle.figures.proofs.figures.aquifer_figures.Tie as tie
 
 abbrev Inv-loop : tie.InvT-loop
-Inv-loop b n all₀ i₀ all i =
-    (i ≤ n) × Filled 32 noAquiferFigures (aquiferFigures (viewOf b)) i all
+Inv-loop n aquifers all₀ i₀ all i =
+    (i ≤ n) × Filled 32 noAquiferFigures (aquiferFigures (aquifersView aquifers n)) i all
 
 abbrev μ-loop : tie.MeasureT-loop
-μ-loop b n all₀ i₀ all i = n - i
+μ-loop n aquifers all₀ i₀ all i = n - i
 
 loop-holds : tie.Need-loop-holds Inv-loop μ-loop
 loop-holds c = (omega arith, filled-start 32 noAquiferFigures _)
@@ -23,8 +22,8 @@ loop-holds c = (omega arith, filled-start 32 noAquiferFigures _)
 mul-a : tie.Need-mul-a Inv-loop μ-loop
 mul-a c = omega arith
 
-element-copy-out-a : tie.Need-element-copy-out-a Inv-loop μ-loop
-element-copy-out-a c = omega arith
+array-copy-out-a : tie.Need-array-copy-out-a Inv-loop μ-loop
+array-copy-out-a c = omega arith
 
 of-aquifer-requires : tie.Need-of-aquifer-requires Inv-loop μ-loop
 of-aquifer-requires c κs =
@@ -46,7 +45,7 @@ loop-less c = falls _ _ (c .before .before .loop-test .taken)
 loop-again : tie.Need-loop-again Inv-loop μ-loop
 loop-again c =
     let start = c .before .before .before .before in
-    let v = viewOf (start .args .t1) in
+    let v = aquifersView (start .args .t1) (start .args .n) in
     let i = c .before .before .before .loop .i in
     rw (add-one i) (
       c .before .before .loop-test .taken,
@@ -56,7 +55,7 @@ loop-again c =
 
 returns : tie.Need-returns Inv-loop μ-loop
 returns c =
-    let v = viewOf (c .before .before .args .t1) in
+    let v = aquifersView (c .before .before .args .t1) (c .before .before .args .n) in
     let e : c .before .loop .i ≡ v .aquifers = omega (arith, c .before .loop .inv .0, c .loop-test .left) in
     filled-table 32 noAquiferFigures (aquiferFigures v) (v .aquifers) _ (rw e at (c .before .loop .inv .1))
 
@@ -68,7 +67,7 @@ aquifer-figures-spec =
     μ-loop
     loop-holds
     mul-a
-    element-copy-out-a
+    array-copy-out-a
     of-aquifer-requires
     mul-all
     array-set-from-all

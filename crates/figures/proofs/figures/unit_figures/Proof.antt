@@ -6,8 +6,8 @@ use native.Mathlib.Omega.{arith}
 use native.Mathlib.Numerals.{add-one}
 use borrow.Author.Count.{falls}
 use Rattle.laws.proofs.Arrays.{Filled, filled-start, filled-put, filled-table}
-use Rattle.model.specs.View.{viewOf}
 use Rattle.figures.specs.Figures.{unitFigures, noUnitFigures}
+use Rattle.river.specs.Units.{unitsView}
 use Rattle.river.proofs.Flows.{gathered-small}
 use Rattle.river.proofs.Reserves.{splits}
 use Rattle.figures.proofs.Units.{figures-from}
@@ -15,11 +15,11 @@ use Rattle.figures.proofs.figures.unit_figures.Statement.{statement}
 use Rattle.figures.proofs.figures.unit_figures.Tie as tie
 
 abbrev Inv-loop : tie.InvT-loop
-Inv-loop b n f volumes all₀ i₀ all i =
-    (i ≤ n) × Filled 64 noUnitFigures (unitFigures (viewOf b)) i all
+Inv-loop n units f volumes all₀ i₀ all i =
+    (i ≤ n) × Filled 64 noUnitFigures (unitFigures (unitsView units n)) i all
 
 abbrev μ-loop : tie.MeasureT-loop
-μ-loop b n f volumes all₀ i₀ all i = n - i
+μ-loop n units f volumes all₀ i₀ all i = n - i
 
 flow-amounts-requires : tie.Need-flow-amounts-requires Inv-loop μ-loop
 flow-amounts-requires c κs = c .pre
@@ -33,8 +33,8 @@ loop-holds c = (omega arith, filled-start 64 noUnitFigures _)
 mul-u : tie.Need-mul-u Inv-loop μ-loop
 mul-u c = omega arith
 
-element-copy-out-u : tie.Need-element-copy-out-u Inv-loop μ-loop
-element-copy-out-u c = omega arith
+array-copy-out-u : tie.Need-array-copy-out-u Inv-loop μ-loop
+array-copy-out-u c = omega arith
 
 mul-of-unit : tie.Need-mul-of-unit Inv-loop μ-loop
 mul-of-unit c = omega arith
@@ -63,7 +63,7 @@ array-read-of-unit c = omega arith
 of-unit-requires : tie.Need-of-unit-requires Inv-loop μ-loop
 of-unit-requires c κs =
     let start = c .before .before .before .before .before .before .before .before in
-    let v = viewOf (start .args .t1) in
+    let v = unitsView (start .args .t1) (start .args .n) in
     let i = c .before .before .before .before .before .loop .i in
     let h = c .before .before .before .before .loop-test .taken in
     let r = start .pre in
@@ -86,7 +86,7 @@ loop-less c = falls _ _ (c .before .before .before .before .before .loop-test .t
 loop-again : tie.Need-loop-again Inv-loop μ-loop
 loop-again c =
     let start = c .before .before .before .before .before .before .before .before .before in
-    let v = viewOf (start .args .t1) in
+    let v = unitsView (start .args .t1) (start .args .n) in
     let loop = c .before .before .before .before .before .before .loop in
     let i = loop .i in
     let h = c .before .before .before .before .before .loop-test .taken in
@@ -97,7 +97,7 @@ loop-again c =
 
 returns : tie.Need-returns Inv-loop μ-loop
 returns c =
-    let v = viewOf (c .before .before .before .before .args .t1) in
+    let v = unitsView (c .before .before .before .before .args .t1) (c .before .before .before .before .args .n) in
     let e : c .before .loop .i ≡ v .units = omega (arith, c .before .loop .inv .0, c .loop-test .left) in
     filled-table 64 noUnitFigures (unitFigures v) (v .units) _ (rw e at (c .before .loop .inv .1))
 
@@ -111,7 +111,7 @@ unit-figures-spec =
     committed-requires
     loop-holds
     mul-u
-    element-copy-out-u
+    array-copy-out-u
     mul-of-unit
     element-copy-out-of-unit
     mul-of-unit-2

@@ -4,16 +4,16 @@ use mathlib.Core.Path.{_≡_}
 use native.Mathlib.Omega.{arith}
 use native.Mathlib.Numerals.{add-one}
 use Rattle.laws.proofs.Arrays.{Filled, filled-start, filled-more}
-use Rattle.model.specs.View.{viewOf}
 use Rattle.river.specs.Flow.{downstream}
+use Rattle.river.specs.Units.{unitsView}
 use Rattle.reach.proofs.below.downs.Statement.{statement}
 use Rattle.reach.proofs.below.downs.Tie as tie
 
 abbrev Inv-loop : tie.InvT-loop
-Inv-loop b n down₀ i₀ down i = (i ≤ n) × Filled 64 0 (downstream (viewOf b)) i down
+Inv-loop n units down₀ i₀ down i = (i ≤ n) × Filled 64 0 (downstream (unitsView units n)) i down
 
 abbrev μ-loop : tie.MeasureT-loop
-μ-loop b n down₀ i₀ down i = n - i
+μ-loop n units down₀ i₀ down i = n - i
 
 loop-holds : tie.Need-loop-holds Inv-loop μ-loop
 loop-holds c = (omega arith, filled-start 64 0 _)
@@ -21,8 +21,8 @@ loop-holds c = (omega arith, filled-start 64 0 _)
 mul-u : tie.Need-mul-u Inv-loop μ-loop
 mul-u c = omega arith
 
-element-copy-out-u : tie.Need-element-copy-out-u Inv-loop μ-loop
-element-copy-out-u c = omega arith
+array-copy-out-u : tie.Need-array-copy-out-u Inv-loop μ-loop
+array-copy-out-u c = omega arith
 
 array-write-down : tie.Need-array-write-down Inv-loop μ-loop
 array-write-down c = omega arith
@@ -35,7 +35,7 @@ loop-less c = omega arith
 
 loop-again : tie.Need-loop-again Inv-loop μ-loop
 loop-again c =
-    let v = viewOf (c .before .before .before .args .t1) in
+    let v = unitsView (c .before .before .before .args .t1) (c .before .before .before .args .n) in
     let loop = c .before .before .loop in
     rw (add-one (loop .i)) (
       c .before .loop-test .taken,
@@ -44,7 +44,7 @@ loop-again c =
 
 returns : tie.Need-returns Inv-loop μ-loop
 returns c =
-    let e : c .before .loop .i ≡ c .before .before .args .t1 .«unit_count» = omega (arith, c .before .loop .inv .0, c .loop-test .left) in
+    let e : c .before .loop .i ≡ c .before .before .args .n = omega (arith, c .before .loop .inv .0, c .loop-test .left) in
     let f = rw e at (c .before .loop .inv .1) in
     record { long = f .long; each = f .done; rest = f .rest }
 
@@ -56,7 +56,7 @@ downs-spec =
     μ-loop
     loop-holds
     mul-u
-    element-copy-out-u
+    array-copy-out-u
     array-write-down
     add-i
     loop-less

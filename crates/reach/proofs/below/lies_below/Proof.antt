@@ -2,7 +2,7 @@
 use mathlib.Core.Path.{_∙_}
 use native.Mathlib.Omega.{arith}
 use borrow.Author.Needs.{needs}
-use Rattle.model.specs.View.{viewOf}
+use Rattle.river.specs.Units.{unitsView}
 use Rattle.reach.proofs.Ways.{numbers-tree, numbers-below}
 use Rattle.reach.proofs.below.lies_below.Statement.{statement}
 use Rattle.reach.proofs.below.lies_below.Tie as tie
@@ -13,7 +13,7 @@ downs-requires c κs = search needs
 below-from-requires : tie.Need-below-from-requires
 below-from-requires c κs =
     let start = c .before .before in (
-      numbers-tree (viewOf (start .args .b)) (start .pre .0) (c .before .downs .result) (c .before .downs .ensures),
+      numbers-tree (unitsView (start .args .units) (start .args .n)) (start .pre .0) (c .before .downs .result) (c .before .downs .ensures),
       omega (arith, start .pre .1, start .pre .0 .few),
     )
 
@@ -21,7 +21,7 @@ returns : tie.Need-returns
 returns c =
     let start = c .before .before .before in
     c .below-from .ensures
-    ∙ numbers-below (viewOf (start .args .b)) (start .pre .0) (c .before .before .downs .result) (c .before .before .downs .ensures)
+    ∙ numbers-below (unitsView (start .args .units) (start .args .n)) (start .pre .0) (c .before .before .downs .result) (c .before .before .downs .ensures)
     (start .args .u) (start .args .w) (start .pre .1)
 
 pub lies-below-spec : {M : Type 1} → statement M

@@ -4,8 +4,8 @@ use mathlib.Core.Path.{_≡_, sym, _∙_}
 use native.Mathlib.Omega.{arith}
 use native.Mathlib.Numerals.{sub-one}
 use Rattle.laws.proofs.Arrays.{FilledDown, filled-down-start, filled-down-more}
-use Rattle.model.specs.View.{viewOf}
 use Rattle.river.specs.Flow.{downstream}
+use Rattle.river.specs.Units.{unitsView}
 use Rattle.river.proofs.Reserves.{Below, below-of}
 use Rattle.reach.specs.Reach.{outlet}
 use Rattle.reach.proofs.Ways.{outlet-self, outlet-next}
@@ -13,10 +13,10 @@ use Rattle.reach.proofs.outlet.outlets.Statement.{statement}
 use Rattle.reach.proofs.outlet.outlets.Tie as tie
 
 abbrev Inv-loop : tie.InvT-loop
-Inv-loop b n ends₀ i₀ ends i = (i ≤ n) × FilledDown 64 0 (outlet (viewOf b)) n i ends
+Inv-loop n units ends₀ i₀ ends i = (i ≤ n) × FilledDown 64 0 (outlet (unitsView units n)) n i ends
 
 abbrev μ-loop : tie.MeasureT-loop
-μ-loop b n ends₀ i₀ ends i = i
+μ-loop n units ends₀ i₀ ends i = i
 
 loop-holds : tie.Need-loop-holds Inv-loop μ-loop
 loop-holds c = (omega arith, filled-down-start 64 0 _ _)
@@ -27,8 +27,8 @@ sub-i c = omega arith
 mul-u : tie.Need-mul-u Inv-loop μ-loop
 mul-u c = omega arith
 
-element-copy-out-u : tie.Need-element-copy-out-u Inv-loop μ-loop
-element-copy-out-u c = omega arith
+array-copy-out-u : tie.Need-array-copy-out-u Inv-loop μ-loop
+array-copy-out-u c = omega arith
 
 cast-d : tie.Need-cast-d Inv-loop μ-loop
 cast-d c = omega arith
@@ -41,10 +41,10 @@ mul-below c = omega arith
 
 -- The place of the downstream unit.
 onward : (c : tie.Then1 Inv-loop μ-loop)
-    → Below (viewOf (c .before .before .before .before .before .args .t1)) (c .before .before .before .before .loop .i - 1)
+    → Below (unitsView (c .before .before .before .before .before .args .t1) (c .before .before .before .before .before .args .n)) (c .before .before .before .before .loop .i - 1)
 onward c =
     let start = c .before .before .before .before .before in
-    below-of (viewOf (start .args .t1)) (start .pre) (c .before .before .before .before .loop .i - 1)
+    below-of (unitsView (start .args .t1) (start .args .n)) (start .pre) (c .before .before .before .before .loop .i - 1)
     (omega (arith, c .before .before .before .before .loop .inv .0, c .before .before .before .loop-test .taken))
     (omega (arith, c .if1 .taken))
 
@@ -63,7 +63,7 @@ loop-less c = omega (arith, c .before .before .before .loop-test .taken)
 loop-again : tie.Need-loop-again Inv-loop μ-loop
 loop-again c =
     let start = c .before .before .before .before .before in
-    let v = viewOf (start .args .t1) in
+    let v = unitsView (start .args .t1) (start .args .n) in
     let loop = c .before .before .before .before .loop in
     let j = loop .i - 1 in
     let b = onward c in
@@ -88,7 +88,7 @@ loop-less-2 c = omega (arith, c .before .before .before .loop-test .taken)
 loop-again-2 : tie.Need-loop-again-2 Inv-loop μ-loop
 loop-again-2 c =
     let start = c .before .before .before .before .before in
-    let v = viewOf (start .args .t1) in
+    let v = unitsView (start .args .t1) (start .args .n) in
     let loop = c .before .before .before .before .loop in
     let j = loop .i - 1 in
     let h : j < v .units = omega (arith, loop .inv .0, c .before .before .before .loop-test .taken) in
@@ -113,7 +113,7 @@ outlets-spec =
     loop-holds
     sub-i
     mul-u
-    element-copy-out-u
+    array-copy-out-u
     cast-d
     sub-k
     mul-below

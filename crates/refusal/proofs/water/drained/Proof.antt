@@ -12,16 +12,8 @@ use Rattle.refusal.proofs.Negative.{negative-kept}
 use Rattle.refusal.proofs.water.drained.Statement.{statement}
 use Rattle.refusal.proofs.water.drained.Tie as tie
 
-mul-a : tie.Need-mul-a
-mul-a c = search needs
-
-element-copy-out-a : tie.Need-element-copy-out-a
-element-copy-out-a c = search needs
-
 of-aquifer-requires : tie.Need-of-aquifer-requires
-of-aquifer-requires c κs =
-    let start = c .before in
-    (start .pre .0 .rises (start .args .k) (start .pre .1), start .pre .0 .falls (start .args .k) (start .pre .1))
+of-aquifer-requires c κs = search needs
 
 returns : tie.Need-returns
 returns c =
@@ -30,4 +22,4 @@ returns c =
     negative-kept _ f ∙ ap (λ (g : AquiferFigures). not (nonNeg (g .availability))) (figures .ensures)
 
 pub drained-spec : {M : Type 1} → statement M
-drained-spec = tie.close (tie.spec mul-a element-copy-out-a of-aquifer-requires returns)
+drained-spec = tie.close (tie.spec of-aquifer-requires returns)

@@ -9,7 +9,8 @@ use native.Mathlib.Omega.{arith}
 use borrow.Author.Count.{below-none, below-more}
 use borrow.Author.Needs.{needs}
 use Rattle.laws.proofs.Every.{each-every, every-fails}
-use Rattle.model.specs.View.{View, viewOf}
+use Rattle.model.specs.View.{View}
+use Rattle.river.specs.Units.{unitsView}
 use Rattle.river.specs.Flow.{Gathered}
 use Rattle.river.specs.Passes.{CommittedVolumes}
 use Rattle.river.proofs.Flows.{gathered-small}
@@ -23,12 +24,12 @@ use Rattle.refusal.proofs.water.dry.Statement.{statement}
 use Rattle.refusal.proofs.water.dry.Tie as tie
 
 abbrev Inv-loop : tie.InvT-loop
-Inv-loop j f volumes ends outlet n i₀ i =
+Inv-loop n j f volumes ends outlet i₀ i =
     (i ≤ n)
     × ((k : ℕ) → k < i → wantingAmounts (getD ends k 0) outlet (getD (f .gained) k 0) (getD (f .lost) k 0) (getD volumes k 0) ≡ false)
 
 abbrev μ-loop : tie.MeasureT-loop
-μ-loop j f volumes ends outlet n i₀ i = n - i
+μ-loop n j f volumes ends outlet i₀ i = n - i
 
 flow-amounts-requires : tie.Need-flow-amounts-requires Inv-loop μ-loop
 flow-amounts-requires c κs = search needs
@@ -75,7 +76,7 @@ array-read-wanting-2 c = omega (arith, c .before .before .before .before .before
 wanting-requires : tie.Need-wanting-requires Inv-loop μ-loop
 wanting-requires c κs =
     let at = c .before .before .before in
-    let v = viewOf (at .before .before .before .before .args .b) in
+    let v = unitsView (at .before .before .before .before .args .units) (at .before .before .before .before .args .n) in
     let ready = at .before .before .before .before .pre .0 in
     let h : at .loop .i < v .units = omega arith in (
       omega (arith, at .before .before .before .flow-amounts .ensures .1 .0 .each (at .loop .i) h, gathered-small v true ready (at .loop .i) h),
@@ -95,7 +96,7 @@ returns : tie.Need-returns Inv-loop μ-loop
 returns c =
     let at = c .before .before .before .before .before in
     let start = at .before .before .before .before in
-    let v = viewOf (start .args .b) in
+    let v = unitsView (start .args .units) (start .args .n) in
     let j = start .args .j in
     let k = at .loop .i in
     let h : k < v .units = omega arith in
@@ -117,7 +118,7 @@ returns-2 : tie.Need-returns-2 Inv-loop μ-loop
 returns-2 c =
     let at = c .before in
     let start = at .before .before .before .before in
-    let v = viewOf (start .args .b) in
+    let v = unitsView (start .args .units) (start .args .n) in
     let j = start .args .j in
     let f = at .before .before .before .flow-amounts .ensures in
     let e = same v j _ _ _ _ (at .before .outlets .ensures) (f .0) (f .1 .0) (at .before .before .committed .ensures) (start .pre .1) in

@@ -1,117 +1,96 @@
--- `register::no_water` meets its contract. Assumes nothing.
-use mathlib.Core.Path.{sym, ap, subst, _∙_}
+-- `refusal::no_water` meets its contract: by the unit that gives, or by the aquifer that gives. Assumes nothing.
+use Prim.Native.Nat.{ℕ, pred, _-_, _<_}
+use mathlib.Core.Path.{sym, ap, _∙_}
 use native.Mathlib.Omega.{arith}
 use native.Mathlib.Numerals.{sub-one}
 use borrow.Author.Needs.{needs}
 use Rattle.model.specs.View.{viewOf}
-use Rattle.refusal.specs.Grant.{noWater, dry, drained}
-use Rattle.effect.specs.Granted.{Named}
+use Rattle.river.proofs.Units.{ready-alone}
+use Rattle.refusal.specs.Grant.{dry, drained}
+use Rattle.refusal.proofs.Giving.{dry-alone, UnitGives, unit-gives, AquiferGives, aquifer-gives}
 use Rattle.refusal.proofs.water.no_water.Statement.{statement}
 use Rattle.refusal.proofs.water.no_water.Tie as tie
 
-enum-known-t : tie.Need-enum-known-t
-enum-known-t c = search needs
+giving-unit-requires : tie.Need-giving-unit-requires
+giving-unit-requires c κs = search needs
 
-cast-dry : tie.Need-cast-dry
-cast-dry c = search needs
+cast-u : tie.Need-cast-u
+cast-u c = search needs
 
 sub-dry : tie.Need-sub-dry
-sub-dry c = subst (Named (viewOf (c .before .before .before .args .b))) (c .before .t .given .1) (c .before .before .before .pre .2) .0
+sub-dry c = search needs
+
+-- The unit that gives.
+unit-of : (c : tie.Then1) → UnitGives (viewOf (c .before .before .args .t1)) (c .before .before .args .t)
+unit-of c = unit-gives _ _ (c .before .before .pre .2) (omega (arith, c .if1 .taken, c .before .giving-unit .ensures))
 
 dry-requires : tie.Need-dry-requires
 dry-requires c κs =
-    let start = c .before .before .before in
-    let named = subst (Named (viewOf (start .args .b))) (c .before .t .given .1) (start .pre .2) in
-    (start .pre .0, omega (arith, named .0, named .1))
-
-enum-known-t-2 : tie.Need-enum-known-t-2
-enum-known-t-2 c = search needs
-
-cast-drained : tie.Need-cast-drained
-cast-drained c = search needs
-
-sub-drained : tie.Need-sub-drained
-sub-drained c = subst (Named (viewOf (c .before .before .before .args .b))) (c .before .t2 .given .1) (c .before .before .before .pre .2) .0
-
-drained-requires : tie.Need-drained-requires
-drained-requires c κs =
-    let start = c .before .before .before in
-    let named = subst (Named (viewOf (start .args .b))) (c .before .t2 .given .1) (start .pre .2) in
-    (start .pre .1, omega (arith, named .0, named .1))
-
-enum-known-t-3 : tie.Need-enum-known-t-3
-enum-known-t-3 c = search needs
-
-cast-dry-2 : tie.Need-cast-dry-2
-cast-dry-2 c = search needs
-
-sub-dry-2 : tie.Need-sub-dry-2
-sub-dry-2 c =
-    let named = subst (Named (viewOf (c .before .before .before .args .b))) (c .before .t3 .given .1) (c .before .before .before .pre .2) in
-    omega (arith, named .0, named .2)
-
-dry-requires-2 : tie.Need-dry-requires-2
-dry-requires-2 c κs =
-    let start = c .before .before .before in
-    let named = subst (Named (viewOf (start .args .b))) (c .before .t3 .given .1) (start .pre .2) in
-    (start .pre .0, omega (arith, named .0, named .1, named .2, named .3))
-
-enum-known-t-4 : tie.Need-enum-known-t-4
-enum-known-t-4 c = search needs
-
-cast-drained-2 : tie.Need-cast-drained-2
-cast-drained-2 c = search needs
-
-sub-drained-2 : tie.Need-sub-drained-2
-sub-drained-2 c = subst (Named (viewOf (c .before .before .before .args .b))) (c .before .t4 .given .1) (c .before .before .before .pre .2) .0
-
-drained-requires-2 : tie.Need-drained-requires-2
-drained-requires-2 c κs =
-    let start = c .before .before .before in
-    let named = subst (Named (viewOf (start .args .b))) (c .before .t4 .given .1) (start .pre .2) in
-    (start .pre .1, omega (arith, named .0, named .1))
+    let then = c .before in
+    let start = then .before .before in
+    (ready-alone (viewOf (start .args .t1)) (start .pre .0), omega (arith, then .if1 .taken, then .before .giving-unit .ensures, unit-of then .within))
 
 returns : tie.Need-returns
 returns c =
-    let v = viewOf (c .before .before .before .before .args .b) in
-    c .dry .ensures ∙ ap (dry v) (sub-one _) ∙ ap (noWater v) (sym (c .before .before .t .given .1))
+    let then = c .before .before in
+    let v = viewOf (then .before .before .args .t1) in
+    c .dry .ensures
+    ∙ dry-alone v _
+    ∙ ap (dry v) (sub-one _)
+    ∙ ap (λ (n : ℕ). dry v (pred n)) (then .before .giving-unit .ensures)
+    ∙ sym (unit-of then .water)
+
+giving-aquifer-requires : tie.Need-giving-aquifer-requires
+giving-aquifer-requires c κs = search needs
+
+cast-k : tie.Need-cast-k
+cast-k c = search needs
+
+-- The aquifer that gives.
+aquifer-of : (c : tie.Else1) → AquiferGives (viewOf (c .before .before .args .t1)) (c .before .before .args .t)
+aquifer-of c = aquifer-gives _ _ (c .before .before .pre .2) (λ h. omega (arith, h, c .if1 .left, c .before .giving-unit .ensures))
+
+sub-k : tie.Need-sub-k
+sub-k c = omega (arith, c .giving-aquifer .ensures, aquifer-of (c .before) .positive)
+
+mul-a : tie.Need-mul-a
+mul-a c = search needs
+
+well-inside : (c : tie.After-giving-aquifer) → c .giving-aquifer .result - 1 < c .before .before .before .args .t1 .«aquifer_count»
+well-inside c = omega (arith, c .giving-aquifer .ensures, aquifer-of (c .before) .positive, aquifer-of (c .before) .within)
+
+element-copy-out-a : tie.Need-element-copy-out-a
+element-copy-out-a c = omega (arith, well-inside c, c .before .before .before .pre .1 .few)
+
+drained-requires : tie.Need-drained-requires
+drained-requires c κs =
+    let wells = c .before .before .before .before .pre .1 in
+    let inside = well-inside (c .before) in
+    (wells .rises (c .before .giving-aquifer .result - 1) inside, wells .falls (c .before .giving-aquifer .result - 1) inside)
 
 returns-2 : tie.Need-returns-2
 returns-2 c =
-    let v = viewOf (c .before .before .before .before .args .b) in
-    c .drained .ensures ∙ ap (drained v) (sub-one _) ∙ ap (noWater v) (sym (c .before .before .t2 .given .1))
-
-returns-3 : tie.Need-returns-3
-returns-3 c =
-    let v = viewOf (c .before .before .before .before .args .b) in
-    c .dry2 .ensures ∙ ap (dry v) (sub-one _) ∙ ap (noWater v) (sym (c .before .before .t3 .given .1))
-
-returns-4 : tie.Need-returns-4
-returns-4 c =
-    let v = viewOf (c .before .before .before .before .args .b) in
-    c .drained2 .ensures ∙ ap (drained v) (sub-one _) ∙ ap (noWater v) (sym (c .before .before .t4 .given .1))
+    let given = c .before .before in
+    let else = given .before in
+    let v = viewOf (else .before .before .args .t1) in
+    c .drained .ensures
+    ∙ ap (drained v) (sub-one (given .giving-aquifer .result))
+    ∙ ap (λ (n : ℕ). drained v (pred n)) (given .giving-aquifer .ensures)
+    ∙ sym (aquifer-of else .water)
 
 pub no-water-spec : {M : Type 1} → statement M
 no-water-spec =
     tie.close
     (tie.spec
-    enum-known-t
-    cast-dry
+    giving-unit-requires
+    cast-u
     sub-dry
     dry-requires
-    enum-known-t-2
-    cast-drained
-    sub-drained
-    drained-requires
-    enum-known-t-3
-    cast-dry-2
-    sub-dry-2
-    dry-requires-2
-    enum-known-t-4
-    cast-drained-2
-    sub-drained-2
-    drained-requires-2
     returns
-    returns-2
-    returns-3
-    returns-4)
+    giving-aquifer-requires
+    cast-k
+    sub-k
+    mul-a
+    element-copy-out-a
+    drained-requires
+    returns-2)

@@ -8,6 +8,7 @@ use Rattle.model.specs.declared.Balance.{Balance}
 use Rattle.model.specs.View.{viewOf}
 use Rattle.river.specs.Flow.{Ready, flow}
 use Rattle.river.proofs.Firsts.{nothing-every, at-fails}
+use Rattle.river.proofs.Units.{ready-alone, negative-alone}
 use Rattle.basin.specs.Sound.{flowing}
 use Rattle.basin.proofs.Soundness.{soundness}
 use Rattle.effect.specs.Cancelled.{cancelled}
@@ -33,9 +34,10 @@ view c =
 
 first-negative-requires : tie.Need-first-negative-requires
 first-negative-requires c κs =
-    let start = c .before .before in
+    let after = c .before in
+    let start = after .before .before in
     let v = viewOf (start .args .b) in
-    subst⁻¹ Ready (view c) (cancelled-ready v (start .args .number) (soundness v (start .pre .0)))
+    ready-alone _ (subst⁻¹ Ready (view after) (cancelled-ready v (start .args .number) (soundness v (start .pre .0))))
 
 enum-told : tie.Need-enum-told
 enum-told c = search needs
@@ -51,26 +53,26 @@ with-balance n x = record { answer = Accepted; number = n; balance = x }
 
 returns : tie.Need-returns
 returns c =
-    let after = c .before .before .before in
+    let after = c .before .before .before .before in
     let start = after .before .before in
     let b = start .args .b in
     let n = start .args .number in
     ap (with-balance n) (after .without .ensures)
     ∙ reply-cancelled b n (start .pre .0) (start .pre .1)
     (ap flowing (sym (view after))
-    ∙ nothing-every (λ j. nonNeg (flow (viewOf (after .without .result)) j)) _ (sym (c .before .before .first-negative .ensures) ∙ c .enum-told .given .1))
+    ∙ nothing-every (λ j. nonNeg (flow (viewOf (after .without .result)) j)) _ (sym (negative-alone (viewOf (after .without .result))) ∙ sym (c .before .before .first-negative .ensures) ∙ c .enum-told .given .1))
 
 returns-2 : tie.Need-returns-2
 returns-2 c =
     let told = c .before in
-    let after = told .before .before .before in
+    let after = told .before .before .before .before in
     let start = after .before .before in
     let b = start .args .b in
     let n = start .args .number in
     c .refused .ensures
     ∙ reply-needed b n (start .pre .0) (start .pre .1)
     (ap flowing (sym (view after))
-    ∙ at-fails (λ j. nonNeg (flow (viewOf (after .without .result)) j)) _ _ (sym (told .before .before .first-negative .ensures) ∙ told .enum-told2 .given .1))
+    ∙ at-fails (λ j. nonNeg (flow (viewOf (after .without .result)) j)) _ _ (sym (negative-alone (viewOf (after .without .result))) ∙ sym (told .before .before .first-negative .ensures) ∙ told .enum-told2 .given .1))
 
 pub release-spec : {M : Type 1} → statement M
 release-spec =

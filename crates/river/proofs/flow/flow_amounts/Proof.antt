@@ -14,7 +14,8 @@ use Rattle.laws.specs.Sum.{naturals}
 use Rattle.laws.specs.Gather.{arriving}
 use Rattle.laws.proofs.Gathering.{arriving-stays}
 use Rattle.laws.proofs.Arrays.{Filled, filled-start, filled-put, filled-keep, Arrived, arrived-start, arrived-out, arrived-on}
-use Rattle.model.specs.View.{View, viewOf}
+use Rattle.model.specs.View.{View}
+use Rattle.river.specs.Units.{unitsView}
 use Rattle.river.specs.Flow.{downstream, gathered}
 use Rattle.river.specs.Reserve.{contribution}
 use Rattle.river.specs.Passes.{runningBefore}
@@ -25,15 +26,15 @@ use Rattle.river.proofs.flow.flow_amounts.Statement.{statement}
 use Rattle.river.proofs.flow.flow_amounts.Tie as tie
 
 abbrev Inv-loop : tie.InvT-loop
-Inv-loop b n gained₀ lost₀ before₀ arrived₀ i₀ gained lost before arrived i =
+Inv-loop n units gained₀ lost₀ before₀ arrived₀ i₀ gained lost before arrived i =
     (i ≤ n)
-    × Carried 64 (downstream (viewOf b)) (gathered (viewOf b) false) i gained
-    × Carried 64 (downstream (viewOf b)) (gathered (viewOf b) true) i lost
-    × Filled 64 0 (runningBefore (viewOf b)) i before
-    × Arrived 64 (downstream (viewOf b)) (contribution (viewOf b)) i arrived
+    × Carried 64 (downstream (unitsView units n)) (gathered (unitsView units n) false) i gained
+    × Carried 64 (downstream (unitsView units n)) (gathered (unitsView units n) true) i lost
+    × Filled 64 0 (runningBefore (unitsView units n)) i before
+    × Arrived 64 (downstream (unitsView units n)) (contribution (unitsView units n)) i arrived
 
 abbrev μ-loop : tie.MeasureT-loop
-μ-loop b n gained₀ lost₀ before₀ arrived₀ i₀ gained lost before arrived i = n - i
+μ-loop n units gained₀ lost₀ before₀ arrived₀ i₀ gained lost before arrived i = n - i
 
 loop-holds : tie.Need-loop-holds Inv-loop μ-loop
 loop-holds c = (omega arith, carried-start 64 _ _, carried-start 64 _ _, filled-start 64 0 _, arrived-start 64 _ _)
@@ -41,8 +42,8 @@ loop-holds c = (omega arith, carried-start 64 _ _, carried-start 64 _ _, filled-
 mul-u : tie.Need-mul-u Inv-loop μ-loop
 mul-u c = omega arith
 
-element-copy-out-u : tie.Need-element-copy-out-u Inv-loop μ-loop
-element-copy-out-u c = omega arith
+array-copy-out-u : tie.Need-array-copy-out-u Inv-loop μ-loop
+array-copy-out-u c = omega arith
 
 mul-more : tie.Need-mul-more Inv-loop μ-loop
 mul-more c = omega arith
@@ -51,14 +52,14 @@ array-read-more : tie.Need-array-read-more Inv-loop μ-loop
 array-read-more c = omega arith
 
 gain-requires : tie.Need-gain-requires Inv-loop μ-loop
-gain-requires c κs = small (viewOf (c .before .before .before .args .t1)) (c .before .before .before .pre) _ (c .before .loop-test .taken)
+gain-requires c κs = small (unitsView (c .before .before .before .args .t1) (c .before .before .before .args .n)) (c .before .before .before .pre) _ (c .before .loop-test .taken)
 
 -- What unit i has gained when it is passed.
 more-is : (c : tie.After-gain Inv-loop μ-loop)
     → getD (c .before .before .before .loop .gained) (c .before .before .before .loop .i) 0 + c .gain .result
-    ≡ gathered (viewOf (c .before .before .before .before .args .t1)) false (c .before .before .before .loop .i)
+    ≡ gathered (unitsView (c .before .before .before .before .args .t1) (c .before .before .before .before .args .n)) false (c .before .before .before .loop .i)
 more-is c =
-    let v = viewOf (c .before .before .before .before .args .t1) in
+    let v = unitsView (c .before .before .before .before .args .t1) (c .before .before .before .before .args .n) in
     let loop = c .before .before .before .loop in
     omega (arith, loop .inv .1 .ahead (loop .i) (omega arith) (array-read-more (c .before)), c .gain .ensures, gathered-is v false (loop .i))
 
@@ -66,7 +67,7 @@ add-more : tie.Need-add-more Inv-loop μ-loop
 add-more c =
     let start = c .before .before .before .before in
     let i = c .before .before .before .loop .i in
-    omega (arith, more-is c, gathered-small (viewOf (start .args .t1)) false (start .pre) i (c .before .before .loop-test .taken))
+    omega (arith, more-is c, gathered-small (unitsView (start .args .t1) (start .args .n)) false (start .pre) i (c .before .before .loop-test .taken))
 
 mul-less : tie.Need-mul-less Inv-loop μ-loop
 mul-less c = omega arith
@@ -80,9 +81,9 @@ loss-requires c κs = gain-requires (c .before) κs
 -- What unit i has lost when it is passed.
 less-is : (c : tie.After-loss Inv-loop μ-loop)
     → getD (c .before .before .before .before .loop .lost) (c .before .before .before .before .loop .i) 0 + c .loss .result
-    ≡ gathered (viewOf (c .before .before .before .before .before .args .t1)) true (c .before .before .before .before .loop .i)
+    ≡ gathered (unitsView (c .before .before .before .before .before .args .t1) (c .before .before .before .before .before .args .n)) true (c .before .before .before .before .loop .i)
 less-is c =
-    let v = viewOf (c .before .before .before .before .before .args .t1) in
+    let v = unitsView (c .before .before .before .before .before .args .t1) (c .before .before .before .before .before .args .n) in
     let loop = c .before .before .before .before .loop in
     omega (arith, loop .inv .2 .ahead (loop .i) (omega arith) (array-read-less (c .before)), c .loss .ensures, gathered-is v true (loop .i))
 
@@ -90,7 +91,7 @@ add-less : tie.Need-add-less Inv-loop μ-loop
 add-less c =
     let start = c .before .before .before .before .before in
     let i = c .before .before .before .before .loop .i in
-    omega (arith, less-is c, gathered-small (viewOf (start .args .t1)) true (start .pre) i (c .before .before .before .loop-test .taken))
+    omega (arith, less-is c, gathered-small (unitsView (start .args .t1) (start .args .n)) true (start .pre) i (c .before .before .before .loop-test .taken))
 
 mul-gained : tie.Need-mul-gained Inv-loop μ-loop
 mul-gained c = omega arith
@@ -110,29 +111,29 @@ cast-d c = omega arith
 -- The two arrays when unit i is whole.
 gained-whole : (c : tie.After-loss Inv-loop μ-loop)
     → let start = c .before .before .before .before .before in
-    let v = viewOf (start .args .t1) in
+    let v = unitsView (start .args .t1) (start .args .n) in
     let loop = c .before .before .before .before .loop in
     Whole 64 (downstream v) (gathered v false) (loop .i) (set (loop .gained) (loop .i) (getD (loop .gained) (loop .i) 0 + c .before .gain .result))
 gained-whole c =
-    let v = viewOf (c .before .before .before .before .before .args .t1) in
+    let v = unitsView (c .before .before .before .before .before .args .t1) (c .before .before .before .before .before .args .n) in
     let loop = c .before .before .before .before .loop in
     rw (more-is (c .before)) (carried-whole 64 (downstream v) (gathered v false) (loop .i) (loop .gained) (array-write-gained c) (loop .inv .1))
 
 lost-whole : (c : tie.After-loss Inv-loop μ-loop)
     → let start = c .before .before .before .before .before in
-    let v = viewOf (start .args .t1) in
+    let v = unitsView (start .args .t1) (start .args .n) in
     let loop = c .before .before .before .before .loop in
     Whole 64 (downstream v) (gathered v true) (loop .i) (set (loop .lost) (loop .i) (getD (loop .lost) (loop .i) 0 + c .loss .result))
 lost-whole c =
-    let v = viewOf (c .before .before .before .before .before .args .t1) in
+    let v = unitsView (c .before .before .before .before .before .args .t1) (c .before .before .before .before .before .args .n) in
     let loop = c .before .before .before .before .loop in
     rw (less-is c) (carried-whole 64 (downstream v) (gathered v true) (loop .i) (loop .lost) (array-write-lost c) (loop .inv .2))
 
 onward : (c : tie.Then1 Inv-loop μ-loop)
-    → Below (viewOf (c .before .before .before .before .before .before .before .args .t1)) (c .before .before .before .before .before .before .loop .i)
+    → Below (unitsView (c .before .before .before .before .before .before .before .args .t1) (c .before .before .before .before .before .before .before .args .n)) (c .before .before .before .before .before .before .loop .i)
 onward c =
     let start = c .before .before .before .before .before .before .before in
-    below-of (viewOf (start .args .t1)) (start .pre) (c .before .before .before .before .before .before .loop .i)
+    below-of (unitsView (start .args .t1) (start .args .n)) (start .pre) (c .before .before .before .before .before .before .loop .i)
     (c .before .before .before .before .before .loop-test .taken) (omega (arith, c .if1 .taken))
 
 -- The downstream unit by its place: a later unit of the balance.
@@ -156,7 +157,7 @@ array-read-gained c = omega (arith, onward c .within, c .before .before .before 
 add-gained : tie.Need-add-gained Inv-loop μ-loop
 add-gained c =
     let start = c .before .before .before .before .before .before .before in
-    let v = viewOf (start .args .t1) in
+    let v = unitsView (start .args .t1) (start .args .n) in
     let i = c .before .before .before .before .before .before .loop .i in
     let q = place-of v i (onward c) in
     omega (arith, more-is (c .before .before .before), left-small v false (start .pre) i (downstream v i - 1) (q .later) (q .within) _ (gained-whole (c .before .before)))
@@ -176,7 +177,7 @@ array-read-lost c = array-read-gained c
 add-lost : tie.Need-add-lost Inv-loop μ-loop
 add-lost c =
     let start = c .before .before .before .before .before .before .before in
-    let v = viewOf (start .args .t1) in
+    let v = unitsView (start .args .t1) (start .args .n) in
     let i = c .before .before .before .before .before .before .loop .i in
     let q = place-of v i (onward c) in
     omega (arith, less-is (c .before .before), left-small v true (start .pre) i (downstream v i - 1) (q .later) (q .within) _ (lost-whole (c .before .before)))
@@ -205,9 +206,9 @@ contribution-requires c κs = search needs
 -- What the unit leaves is its contribution.
 contributed : (c : tie.After-contribution Inv-loop μ-loop)
     → c .contribution .result
-    ≡ contribution (viewOf (c .before .before .before .before .before .before .before .before .args .t1)) (c .before .before .before .before .before .before .before .loop .i)
+    ≡ contribution (unitsView (c .before .before .before .before .before .before .before .before .args .t1) (c .before .before .before .before .before .before .before .before .args .n)) (c .before .before .before .before .before .before .before .loop .i)
 contributed c =
-    let v = viewOf (c .before .before .before .before .before .before .before .before .args .t1) in
+    let v = unitsView (c .before .before .before .before .before .before .before .before .args .t1) (c .before .before .before .before .before .before .before .before .args .n) in
     let i = c .before .before .before .before .before .before .before .loop .i in
     omega (arith, c .contribution .ensures, more-is (c .before .before .before .before), less-is (c .before .before .before), contribution-is v i)
 
@@ -220,7 +221,7 @@ outlet-is v i e = rw (eq-eqb (downstream v i) 0 e)
 add-arrived : tie.Need-add-arrived Inv-loop μ-loop
 add-arrived c =
     let start = c .before .before .before .before .before .before .before .before in
-    let v = viewOf (start .args .t1) in
+    let v = unitsView (start .args .t1) (start .args .n) in
     let loop = c .before .before .before .before .before .before .before .loop in
     omega (
       arith,
@@ -245,7 +246,7 @@ loop-less c = falls _ _ (c .before .before .before .before .before .loop-test .t
 loop-again : tie.Need-loop-again Inv-loop μ-loop
 loop-again c =
     let start = c .before .before .before .before .before .before .before in
-    let v = viewOf (start .args .t1) in
+    let v = unitsView (start .args .t1) (start .args .n) in
     let loop = c .before .before .before .before .before .before .loop in
     let i = loop .i in
     let k = downstream v i - 1 in
@@ -278,7 +279,7 @@ loop-again c =
 
 returns : tie.Need-returns Inv-loop μ-loop
 returns c =
-    let v = viewOf (c .before .before .args .t1) in
+    let v = unitsView (c .before .before .args .t1) (c .before .before .args .n) in
     let r = c .before .before .pre in
     let loop = c .before .loop in
     let e : loop .i ≡ v .units = omega (arith, loop .inv .0, c .loop-test .left) in
@@ -304,7 +305,7 @@ flow-amounts-spec =
     μ-loop
     loop-holds
     mul-u
-    element-copy-out-u
+    array-copy-out-u
     mul-more
     array-read-more
     gain-requires

@@ -8,7 +8,8 @@ use borrow.Author.Needs.{needs}
 use borrow.Author.Count.{falls-down}
 use borrow.Author.Tests.{ne-eqb}
 use Rattle.laws.proofs.Arrays.{FilledDown, filled-down-start, filled-down-more}
-use Rattle.model.specs.View.{View, viewOf}
+use Rattle.model.specs.View.{View}
+use Rattle.river.specs.Units.{unitsView}
 use Rattle.river.specs.Flow.{downstream}
 use Rattle.river.specs.Reserve.{contribution, runningTotal, committed}
 use Rattle.river.specs.Passes.{runningBefore}
@@ -17,11 +18,11 @@ use Rattle.river.proofs.reserve.committed.Statement.{statement}
 use Rattle.river.proofs.reserve.committed.Tie as tie
 
 abbrev Inv-loop : tie.InvT-loop
-Inv-loop b f volumes₀ i₀ volumes i =
-    (i ≤ viewOf b .units) × FilledDown 64 0 (committed (viewOf b)) (viewOf b .units) i volumes
+Inv-loop n units f volumes₀ i₀ volumes i =
+    (i ≤ n) × FilledDown 64 0 (committed (unitsView units n)) (n) i volumes
 
 abbrev μ-loop : tie.MeasureT-loop
-μ-loop b f volumes₀ i₀ volumes i = i
+μ-loop n units f volumes₀ i₀ volumes i = i
 
 loop-holds : tie.Need-loop-holds Inv-loop μ-loop
 loop-holds c = (omega arith, filled-down-start 64 0 _ _)
@@ -32,8 +33,8 @@ sub-i c = omega arith
 mul-u : tie.Need-mul-u Inv-loop μ-loop
 mul-u c = omega arith
 
-element-copy-out-u : tie.Need-element-copy-out-u Inv-loop μ-loop
-element-copy-out-u c = omega arith
+array-copy-out-u : tie.Need-array-copy-out-u Inv-loop μ-loop
+array-copy-out-u c = omega arith
 
 cast-d : tie.Need-cast-d Inv-loop μ-loop
 cast-d c = omega arith
@@ -45,15 +46,15 @@ mul-w : tie.Need-mul-w Inv-loop μ-loop
 mul-w c = omega arith
 
 onward : (c : tie.Then1 Inv-loop μ-loop)
-    → Below (viewOf (c .before .before .before .before .before .args .t1)) (c .before .before .before .before .loop .i - 1)
+    → Below (unitsView (c .before .before .before .before .before .args .t1) (c .before .before .before .before .before .args .n)) (c .before .before .before .before .loop .i - 1)
 onward c =
-    below-of (viewOf (c .before .before .before .before .before .args .t1)) (c .before .before .before .before .before .pre .0)
+    below-of (unitsView (c .before .before .before .before .before .args .t1) (c .before .before .before .before .before .args .n)) (c .before .before .before .before .before .pre .0)
     (c .before .before .before .before .loop .i - 1)
     (omega (arith, c .before .before .before .before .loop .inv .0, c .before .before .before .loop-test .taken))
     (omega (arith, c .if1 .taken))
 
-element-copy-out-w : tie.Need-element-copy-out-w Inv-loop μ-loop
-element-copy-out-w c = omega (arith, onward c .within, c .before .before .before .before .before .pre .0 .few)
+array-copy-out-w : tie.Need-array-copy-out-w Inv-loop μ-loop
+array-copy-out-w c = omega (arith, onward c .within, c .before .before .before .before .before .pre .0 .few)
 
 mul-contribution : tie.Need-mul-contribution Inv-loop μ-loop
 mul-contribution c = omega arith
@@ -74,13 +75,13 @@ mul-from-below : tie.Need-mul-from-below Inv-loop μ-loop
 mul-from-below c = omega arith
 
 array-read-from-below : tie.Need-array-read-from-below Inv-loop μ-loop
-array-read-from-below c = element-copy-out-w (c .before .before .before .before)
+array-read-from-below c = array-copy-out-w (c .before .before .before .before)
 
 mul-from-below-2 : tie.Need-mul-from-below-2 Inv-loop μ-loop
 mul-from-below-2 c = omega arith
 
 element-copy-out-from-below : tie.Need-element-copy-out-from-below Inv-loop μ-loop
-element-copy-out-from-below c = element-copy-out-w (c .before .before .before .before)
+element-copy-out-from-below c = array-copy-out-w (c .before .before .before .before)
 
 mul-from-below-3 : tie.Need-mul-from-below-3 Inv-loop μ-loop
 mul-from-below-3 c = omega arith
@@ -96,17 +97,17 @@ record Read (v : View) (j volume arrived before own : ℕ) : Type 0 where
   own-is : own ≡ contribution v j
 
 reads-of : (c : tie.After-contribution Inv-loop μ-loop)
-    → Read (viewOf (c .before .before .before .before .before .before .before .before .before .args .t1))
+    → Read (unitsView (c .before .before .before .before .before .before .before .before .before .args .t1) (c .before .before .before .before .before .before .before .before .before .args .n))
     (c .before .before .before .before .before .before .before .before .loop .i - 1)
     (getD (c .before .before .before .before .before .before .before .before .loop .volumes)
-    (downstream (viewOf (c .before .before .before .before .before .before .before .before .before .args .t1)) (c .before .before .before .before .before .before .before .before .loop .i - 1) - 1) 0)
-    (getD (c .before .before .before .before .before .before .before .before .before .args .t2 .arrived)
-    (downstream (viewOf (c .before .before .before .before .before .before .before .before .before .args .t1)) (c .before .before .before .before .before .before .before .before .loop .i - 1) - 1) 0)
-    (getD (c .before .before .before .before .before .before .before .before .before .args .t2 .before) (c .before .before .before .before .before .before .before .before .loop .i - 1) 0)
+    (downstream (unitsView (c .before .before .before .before .before .before .before .before .before .args .t1) (c .before .before .before .before .before .before .before .before .before .args .n)) (c .before .before .before .before .before .before .before .before .loop .i - 1) - 1) 0)
+    (getD (c .before .before .before .before .before .before .before .before .before .args .t3 .arrived)
+    (downstream (unitsView (c .before .before .before .before .before .before .before .before .before .args .t1) (c .before .before .before .before .before .before .before .before .before .args .n)) (c .before .before .before .before .before .before .before .before .loop .i - 1) - 1) 0)
+    (getD (c .before .before .before .before .before .before .before .before .before .args .t3 .before) (c .before .before .before .before .before .before .before .before .loop .i - 1) 0)
     (c .contribution .result)
 reads-of c =
     let start = c .before .before .before .before .before .before .before .before .before in
-    let v = viewOf (start .args .t1) in
+    let v = unitsView (start .args .t1) (start .args .n) in
     let loop = c .before .before .before .before .before .before .before .before .loop in
     let j = loop .i - 1 in
     let b = onward (c .before .before .before .before) in
@@ -125,7 +126,7 @@ reads-of c =
 from-below-requires : tie.Need-from-below-requires Inv-loop μ-loop
 from-below-requires c κs =
     let start = c .before .before .before .before .before .before .before .before .before .before .before in
-    let v = viewOf (start .args .t1) in
+    let v = unitsView (start .args .t1) (start .args .n) in
     let j = c .before .before .before .before .before .before .before .before .before .before .loop .i - 1 in
     let b = onward (c .before .before .before .before .before .before) in
     let q = reads-of (c .before .before) in
@@ -144,7 +145,7 @@ loop-less c = falls-down _ (c .before .before .before .before .before .before .b
 loop-again : tie.Need-loop-again Inv-loop μ-loop
 loop-again c =
     let start = c .before .before .before .before .before .before .before .before .before .before .before .before in
-    let v = viewOf (start .args .t1) in
+    let v = unitsView (start .args .t1) (start .args .n) in
     let loop = c .before .before .before .before .before .before .before .before .before .before .before .loop in
     let j = loop .i - 1 in
     let b = onward (c .before .before .before .before .before .before .before) in
@@ -174,7 +175,7 @@ loop-less-2 c = falls-down _ (c .before .before .before .before .loop-test .take
 loop-again-2 : tie.Need-loop-again-2 Inv-loop μ-loop
 loop-again-2 c =
     let start = c .before .before .before .before .before .before in
-    let v = viewOf (start .args .t1) in
+    let v = unitsView (start .args .t1) (start .args .n) in
     let loop = c .before .before .before .before .before .loop in
     let j = loop .i - 1 in
     let t = c .before .before .before .before .loop-test .taken in
@@ -200,11 +201,11 @@ committed-spec =
     loop-holds
     sub-i
     mul-u
-    element-copy-out-u
+    array-copy-out-u
     cast-d
     sub-k
     mul-w
-    element-copy-out-w
+    array-copy-out-w
     mul-contribution
     element-copy-out-contribution
     mul-contribution-2

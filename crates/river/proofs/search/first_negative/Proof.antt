@@ -11,7 +11,7 @@ use lib.ListN.{getD}
 use lib.Signed.{nonNeg}
 use Rattle.laws.proofs.Parts.{Less, less-monus, less-nonNeg, less-negative}
 use Rattle.laws.proofs.Arrays.{Arrived, arrived-start, arrived-out, arrived-on}
-use Rattle.model.specs.View.{viewOf}
+use Rattle.river.specs.Units.{unitsView}
 use Rattle.river.specs.Flow.{downstream, flow}
 use Rattle.river.specs.Reserve.{contribution}
 use Rattle.river.proofs.Flows.{small}
@@ -21,13 +21,13 @@ use Rattle.river.proofs.search.first_negative.Statement.{statement}
 use Rattle.river.proofs.search.first_negative.Tie as tie
 
 abbrev Inv-loop : tie.InvT-loop
-Inv-loop b n arrived₀ i₀ arrived i =
+Inv-loop n units arrived₀ i₀ arrived i =
     (i ≤ n)
-    × ((k : ℕ) → k < i → nonNeg (flow (viewOf b) k) ≡ true)
-    × Arrived 64 (downstream (viewOf b)) (contribution (viewOf b)) i arrived
+    × ((k : ℕ) → k < i → nonNeg (flow (unitsView units n) k) ≡ true)
+    × Arrived 64 (downstream (unitsView units n)) (contribution (unitsView units n)) i arrived
 
 abbrev μ-loop : tie.MeasureT-loop
-μ-loop b n arrived₀ i₀ arrived i = n - i
+μ-loop n units arrived₀ i₀ arrived i = n - i
 
 loop-holds : tie.Need-loop-holds Inv-loop μ-loop
 loop-holds c = (omega arith, below-none _, arrived-start 64 _ _)
@@ -35,8 +35,8 @@ loop-holds c = (omega arith, below-none _, arrived-start 64 _ _)
 mul-u : tie.Need-mul-u Inv-loop μ-loop
 mul-u c = omega arith
 
-element-copy-out-u : tie.Need-element-copy-out-u Inv-loop μ-loop
-element-copy-out-u c = omega arith
+array-copy-out-u : tie.Need-array-copy-out-u Inv-loop μ-loop
+array-copy-out-u c = omega arith
 
 mul-gained : tie.Need-mul-gained Inv-loop μ-loop
 mul-gained c = omega arith
@@ -46,12 +46,12 @@ array-read-gained c = omega arith
 
 gain-requires : tie.Need-gain-requires Inv-loop μ-loop
 gain-requires c κs =
-    small (viewOf (c .before .before .before .args .t1)) (c .before .before .before .pre) _ (omega (arith, c .before .if1 .left))
+    small (unitsView (c .before .before .before .args .t1) (c .before .before .before .args .n)) (c .before .before .before .pre) _ (omega (arith, c .before .if1 .left))
 
 add-gained : tie.Need-add-gained Inv-loop μ-loop
 add-gained c =
     let start = c .before .before .before .before in
-    let v = viewOf (start .args .t1) in
+    let v = unitsView (start .args .t1) (start .args .n) in
     let loop = c .before .before .before .loop in
     let h : loop .i < v .units = omega (arith, c .before .before .if1 .left) in
     omega (
@@ -67,13 +67,13 @@ loss-requires c κs = gain-requires (c .before) κs
 
 -- What the loop compares at unit i: its flow is the one less the other.
 reached : (c : tie.After-loss Inv-loop μ-loop)
-    → Less (flow (viewOf (c .before .before .before .before .before .args .t1)) (c .before .before .before .before .loop .i))
+    → Less (flow (unitsView (c .before .before .before .before .before .args .t1) (c .before .before .before .before .before .args .n)) (c .before .before .before .before .loop .i))
     (getD (c .before .before .before .before .loop .arrived) (c .before .before .before .before .loop .i) 0 + c .before .gain .result)
     (c .loss .result)
 reached c =
     let loop = c .before .before .before .before .loop in
     rw (loop .inv .2 .each (loop .i) (array-read-gained (c .before .before)), c .before .gain .ensures, c .loss .ensures)
-    (flow-reached (viewOf (c .before .before .before .before .before .args .t1)) (loop .i) (loop .inv .1))
+    (flow-reached (unitsView (c .before .before .before .before .before .args .t1) (c .before .before .before .before .before .args .n)) (loop .i) (loop .inv .1))
 
 cast-d : tie.Need-cast-d Inv-loop μ-loop
 cast-d c = omega arith
@@ -82,10 +82,10 @@ sub-k : tie.Need-sub-k Inv-loop μ-loop
 sub-k c = omega arith
 
 onward : (c : tie.Then3 Inv-loop μ-loop)
-    → Below (viewOf (c .before .before .before .before .before .before .before .before .args .t1)) (c .before .before .before .before .before .before .before .loop .i)
+    → Below (unitsView (c .before .before .before .before .before .before .before .before .args .t1) (c .before .before .before .before .before .before .before .before .args .n)) (c .before .before .before .before .before .before .before .loop .i)
 onward c =
     let start = c .before .before .before .before .before .before .before .before in
-    below-of (viewOf (start .args .t1)) (start .pre) (c .before .before .before .before .before .before .before .loop .i)
+    below-of (unitsView (start .args .t1) (start .args .n)) (start .pre) (c .before .before .before .before .before .before .before .loop .i)
     (omega (arith, c .before .before .before .before .before .before .if1 .left)) (omega (arith, c .if3 .taken))
 
 mul-arrived : tie.Need-mul-arrived Inv-loop μ-loop
@@ -98,13 +98,13 @@ array-read-arrived c = omega (arith, onward c .within, c .before .before .before
 contributed : (c : tie.After-struct-known Inv-loop μ-loop)
     → getD (c .before .before .before .before .before .before .loop .arrived) (c .before .before .before .before .before .before .loop .i) 0
     + c .before .before .before .gain .result - c .before .before .loss .result
-    ≡ contribution (viewOf (c .before .before .before .before .before .before .before .args .t1)) (c .before .before .before .before .before .before .loop .i)
+    ≡ contribution (unitsView (c .before .before .before .before .before .before .before .args .t1) (c .before .before .before .before .before .before .before .args .n)) (c .before .before .before .before .before .before .loop .i)
 contributed c = sym (less-monus (reached (c .before .before)))
 
 add-arrived : tie.Need-add-arrived Inv-loop μ-loop
 add-arrived c =
     let start = c .before .before .before .before .before .before .before .before in
-    let v = viewOf (start .args .t1) in
+    let v = unitsView (start .args .t1) (start .args .n) in
     let loop = c .before .before .before .before .before .before .before .loop in
     omega (
       arith,
@@ -129,7 +129,7 @@ loop-less c = omega arith
 loop-again : tie.Need-loop-again Inv-loop μ-loop
 loop-again c =
     let start = c .before .before .before .before .before .before .before .before in
-    let v = viewOf (start .args .t1) in
+    let v = unitsView (start .args .t1) (start .args .n) in
     let loop = c .before .before .before .before .before .before .before .loop in
     let i = loop .i in (
       omega arith,
@@ -146,12 +146,12 @@ loop-again c =
 
 returns : tie.Need-returns Inv-loop μ-loop
 returns c =
-    let v = viewOf (c .before .before .args .t1) in
+    let v = unitsView (c .before .before .args .t1) (c .before .before .args .n) in
     sym (first-nothing _ (v .units) (λ k h. ap not (c .before .loop .inv .1 k (omega (arith, c .if1 .taken)))))
 
 returns-2 : tie.Need-returns-2 Inv-loop μ-loop
 returns-2 c =
-    let v = viewOf (c .before .before .before .before .before .before .args .t1) in
+    let v = unitsView (c .before .before .before .before .before .before .args .t1) (c .before .before .before .before .before .before .args .n) in
     let loop = c .before .before .before .before .before .loop in
     sym (first-at _ (v .units) (loop .i) (omega (arith, c .before .before .before .before .if1 .left)) (λ k h. ap not (loop .inv .1 k h))
     (ap not (less-negative (reached (c .before)) (c .if2 .taken))))
@@ -164,7 +164,7 @@ first-negative-spec =
     μ-loop
     loop-holds
     mul-u
-    element-copy-out-u
+    array-copy-out-u
     mul-gained
     array-read-gained
     gain-requires
