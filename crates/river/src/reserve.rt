@@ -54,7 +54,7 @@ fn share_above(demand: u64, total: u64, before: u64, own: u64) -> u64
     share(demand, total, before, before + own)
 }
 
-// What a unit gets of its own demand.
+// What a unit gets of its own demand: what the units above leave of it.
 fn share_own(demand: u64, total: u64, before: u64) -> u64
     requires { ⌜ (demand ≤ 2610000000) × (before ≤ total) × (total ≤ 2610000000) ⌝ }
     ensures { λ r. ⌜ r ≡ cond (eqb total 0) demand (reserves.share demand total before total) ⌝ }
@@ -62,7 +62,7 @@ fn share_own(demand: u64, total: u64, before: u64) -> u64
     if total == 0 {
         return demand;
     }
-    share(demand, total, before, total)
+    demand - demand * before / total
 }
 
 // What a unit above gets of the demand of unit w, which has so much committed and to which so much has arrived.
