@@ -11,9 +11,8 @@ use Rattle.figures.specs.Figures.{unitFigures, noUnitFigures, figuresFro
 use Rattle.model.specs.View.{View}
 use Rattle.river.specs.Flow.{flow, gathered}
 use Rattle.river.specs.Reserve.{runningTotal, committed, ownReserve}
-use Rattle.river.specs.Units.{alone}
+use Rattle.river.proofs.Units.{alone, flow-alone, committed-alone, reserve-alone}
 use Rattle.river.proofs.Flows.{flow-parts}
-use Rattle.river.proofs.Units.{flow-alone, committed-alone, reserve-alone}
 
 -- The figures of a unit from what is gained and lost at it and above it are those that the definitions give.
 figures-are : (v : View) (j : ℕ)

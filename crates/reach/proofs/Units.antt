@@ -5,7 +5,7 @@ use mathlib.Core.Bool.{Bool, false, cond, _||_}
 use lib.Dec.{eqb}
 use Rattle.model.specs.View.{View}
 use Rattle.river.specs.Flow.{downstream}
-use Rattle.river.specs.Units.{alone}
+use Rattle.river.proofs.Units.{alone}
 use Rattle.reach.specs.Reach.{belowTo, liesBelow, outletTo, outlet}
 
 to-alone : (v : View) (way j : ℕ) → outletTo (alone v) way j ≡ outletTo v way j

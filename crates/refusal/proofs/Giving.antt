@@ -10,8 +10,7 @@ use Rattle.laws.specs.Sum.{every}
 use Rattle.model.specs.declared.Title.{Title}
 use Rattle.model.specs.declared.Title.the-variants.{UnitWithdrawal, AquiferWithdrawal, UnitTransfer, AquiferTransfer}
 use Rattle.model.specs.View.{View}
-use Rattle.river.specs.Units.{alone}
-use Rattle.river.proofs.Units.{flow-alone, committed-alone}
+use Rattle.river.proofs.Units.{alone, flow-alone, committed-alone}
 use Rattle.reach.proofs.Units.{outlet-alone, below-alone}
 use Rattle.effect.specs.Granted.{Named}
 use Rattle.refusal.specs.Grant.{dry, drained, noWater, downstreamTransfer}

@@ -8,10 +8,22 @@ use Rattle.laws.specs.Signed.{above}
 use Rattle.laws.specs.Sum.{naturals}
 use Rattle.laws.specs.Gather.{arriving}
 use Rattle.model.specs.Answers.{first}
+use Rattle.model.specs.Fresh.{emptyAquifer, emptyPlace}
 use Rattle.model.specs.View.{View}
 use Rattle.river.specs.Flow.{downstream, flow, Ready}
 use Rattle.river.specs.Reserve.{inflow, runningTotal, demand, share, shareAbove, shareOwn, committedTo, committed, ownReserve}
-use Rattle.river.specs.Units.{alone}
+
+-- A view without its aquifers and titles.
+abbrev pub alone : View → View
+alone v =
+    record {
+      units = v .units;
+      unit = v .unit;
+      aquifers = 0;
+      aquifer = λ k. emptyAquifer;
+      given = 0;
+      place = λ k. emptyPlace;
+    }
 
 pub ready-alone : (v : View) → Ready v → Ready (alone v)
 ready-alone v r =

@@ -17,15 +17,3 @@ unitsView us n =
       given = 0;
       place = λ k. emptyPlace;
     }
-
--- A view without its aquifers and titles.
-abbrev pub alone : View → View
-alone v =
-    record {
-      units = v .units;
-      unit = v .unit;
-      aquifers = 0;
-      aquifer = λ k. emptyAquifer;
-      given = 0;
-      place = λ k. emptyPlace;
-    }

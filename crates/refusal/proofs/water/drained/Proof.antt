@@ -1,11 +1,9 @@
 -- `refusal::drained` meets its contract. Assumes nothing.
-use mathlib.Core.Path.{_≡_, ap, _∙_}
+use mathlib.Core.Path.{ap, _∙_}
 use mathlib.Core.Bool.{not}
 use lib.Signed.{nonNeg}
-use lib.IntN.{ℤ}
 use mir.Syntax.{w64}
 use mir.Val.{SFits}
-use native.Mathlib.Omega.{arith}
 use borrow.Author.Needs.{needs}
 use Rattle.figures.specs.declared.AquiferFigures.{AquiferFigures}
 use Rattle.refusal.proofs.Negative.{negative-kept}
