@@ -40,16 +40,25 @@ ratio() {
 
 table=
 echo "Instructions for one operation ($(valgrind --version))."
-while IFS=$'\t' read -r title row few more meaning; do
+while IFS=$'\t' read -r title row few many meaning; do
     is_wanted "$row" "$@" || continue
     if [ "$title" != "$table" ]; then
         table=$title
         printf '\n### %s\n\n' "$title"
-        echo "| Row | Meaning | proved | plain | fast | proved / plain | proved / fast |"
-        echo "|---|---|---:|---:|---:|---:|---:|"
+        case $title in
+        *alls) more=' untested | proved / untested |' line='---:|---:|' ;;
+        *) more='' line='' ;;
+        esac
+        echo "| Row | Meaning | proved | plain | fast | proved / plain | proved / fast |$more"
+        echo "|---|---|---:|---:|---:|---:|---:|$line"
     fi
-    proved=$(each "$row" proved "$few" "$more")
-    plain=$(each "$row" plain "$few" "$more")
-    fast=$(each "$row" fast "$few" "$more")
-    echo "| $row | $meaning | $proved | $plain | $fast | $(ratio "$proved" "$plain" 3) | $(ratio "$proved" "$fast" 2) |"
+    proved=$(each "$row" proved "$few" "$many")
+    plain=$(each "$row" plain "$few" "$many")
+    fast=$(each "$row" fast "$few" "$many")
+    last=''
+    if [ -n "$more" ]; then
+        untested=$(each "$row" untested "$few" "$many")
+        last=" $untested | $(ratio "$proved" "$untested" 2) |"
+    fi
+    echo "| $row | $meaning | $proved | $plain | $fast | $(ratio "$proved" "$plain" 3) | $(ratio "$proved" "$fast" 2) |$last"
 done < <("$bench" --rows)

@@ -12,9 +12,16 @@ pub enum Contestant {
     Proved,
     Plain,
     Fast,
+    /// The fast model without the test for refusal 0 at every call.
+    Untested,
 }
 
-pub const CONTESTANTS: [Contestant; 3] = [Contestant::Proved, Contestant::Plain, Contestant::Fast];
+pub const CONTESTANTS: [Contestant; 4] = [
+    Contestant::Proved,
+    Contestant::Plain,
+    Contestant::Fast,
+    Contestant::Untested,
+];
 
 impl Contestant {
     pub fn name(self) -> &'static str {
@@ -22,6 +29,7 @@ impl Contestant {
             Contestant::Proved => "proved",
             Contestant::Plain => "plain",
             Contestant::Fast => "fast",
+            Contestant::Untested => "untested",
         }
     }
 }
@@ -102,6 +110,14 @@ impl Row {
         }
     }
 
+    /// Who is timed: the model without the test only where calls are made.
+    pub fn contestants(&self) -> &'static [Contestant] {
+        match self.work {
+            Work::Calls { .. } => &CONTESTANTS,
+            Work::Open | Work::Figures => &CONTESTANTS[..3],
+        }
+    }
+
     /// Does so many operations, and returns a number that depends on them.
     pub fn perform(&self, who: Contestant, times: usize) -> u64 {
         let book = black_box(self.book.as_slice());
@@ -117,7 +133,7 @@ fn open(who: Contestant, book: &[u8]) -> u64 {
     match who {
         Contestant::Proved => proved::open(book),
         Contestant::Plain => black_box(book::open(book)).is_ok().into(),
-        Contestant::Fast => black_box(fast::open(book)).is_ok().into(),
+        Contestant::Fast | Contestant::Untested => black_box(fast::open(book)).is_ok().into(),
     }
 }
 
@@ -126,6 +142,7 @@ fn run(who: Contestant, book: &[u8]) -> u64 {
         Contestant::Proved => proved::run(book),
         Contestant::Plain => run_plain(book).titles.len() as u64,
         Contestant::Fast => run_fast(book).title_count as u64,
+        Contestant::Untested => run_untested(book).title_count as u64,
     }
 }
 
@@ -143,11 +160,20 @@ fn run_fast(book: &[u8]) -> fast::State {
     state
 }
 
+fn run_untested(book: &[u8]) -> fast::State {
+    let (mut state, end) = fast::open(book).expect("the description is accepted");
+    fast::run_calls_untested(&mut state, book, end, |reply| {
+        black_box(reply);
+    })
+    .expect("every call record is whole");
+    state
+}
+
 fn refigure(who: Contestant, book: &[u8], times: u64) -> u64 {
     match who {
         Contestant::Proved => proved::refigure(book, times),
         Contestant::Plain => refigure_plain(&run_plain(book), times),
-        Contestant::Fast => refigure_fast(&run_fast(book), times),
+        Contestant::Fast | Contestant::Untested => refigure_fast(&run_fast(book), times),
     }
 }
 

@@ -404,6 +404,11 @@ pub fn apply(state: &mut State, call: &Call) -> Reply {
     if is_faulty(state) {
         return Reply::Refused(0);
     }
+    apply_untested(state, call)
+}
+
+/// Applies a call to a state that isn't faulty.
+pub fn apply_untested(state: &mut State, call: &Call) -> Reply {
     match title_of(call) {
         Ok(title) => grant(state, title),
         Err(number) => cancel(state, number),
@@ -1000,6 +1005,27 @@ fn cancellation(body: &[u8; 2]) -> Call {
 /// Applies the calls of a book from an offset on, hands each reply on, and returns the refusal of a
 /// call record that fails.
 pub fn run_calls(
+    state: &mut State,
+    book: &[u8],
+    from: usize,
+    each: impl FnMut(Reply),
+) -> Result<(), Refusal> {
+    run_by(apply, state, book, from, each)
+}
+
+/// The same without the test for refusal 0 at every call: for a state that isn't faulty, on trust
+/// that no call makes it so.
+pub fn run_calls_untested(
+    state: &mut State,
+    book: &[u8],
+    from: usize,
+    each: impl FnMut(Reply),
+) -> Result<(), Refusal> {
+    run_by(apply_untested, state, book, from, each)
+}
+
+fn run_by(
+    apply: impl Fn(&mut State, &Call) -> Reply,
     state: &mut State,
     book: &[u8],
     from: usize,

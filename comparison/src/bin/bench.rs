@@ -2,7 +2,7 @@
 //!
 //!     bench [REPETITIONS]          all tables, in Markdown
 //!     bench --rows                 the rows: table, name, two numbers of operations, meaning
-//!     bench --only ROW WHO TIMES   one row by one contestant (proved, plain or fast), once
+//!     bench --only ROW WHO TIMES   one row by one contestant (proved, plain, fast or untested), once
 
 use comparison::rows::{self, Contestant, Row, CONTESTANTS};
 use std::hint::black_box;
@@ -120,19 +120,20 @@ fn rounds(row: &Row, who: Contestant) -> usize {
 
 /// Times a row: in each repetition every contestant in turn, each time with another one first.
 /// What is done before the first operation is timed by itself and taken off.
-fn measure(row: &Row, repetitions: usize) -> [Times; 3] {
-    let rounds = CONTESTANTS.map(|who| rounds(row, who));
-    let mut times: [Vec<f64>; 3] = Default::default();
+fn measure(row: &Row, repetitions: usize) -> Vec<Times> {
+    let contestants = row.contestants();
+    let rounds: Vec<usize> = contestants.iter().map(|who| rounds(row, *who)).collect();
+    let mut times = vec![Vec::new(); contestants.len()];
     for repetition in 0..repetitions {
-        for place in 0..CONTESTANTS.len() {
-            let place = (place + repetition) % CONTESTANTS.len();
-            let (who, rounds) = (CONTESTANTS[place], rounds[place]);
+        for place in 0..contestants.len() {
+            let place = (place + repetition) % contestants.len();
+            let (who, rounds) = (contestants[place], rounds[place]);
             let all = time(row, who, row.most, rounds);
             let before = time(row, who, 0, rounds);
             times[place].push((all - before) / (row.most * rounds) as f64);
         }
     }
-    times.map(Times::of)
+    times.into_iter().map(Times::of).collect()
 }
 
 fn print_tables(repetitions: usize) -> ExitCode {
@@ -140,14 +141,13 @@ fn print_tables(repetitions: usize) -> ExitCode {
     println!("Microseconds for one operation: median (lower quartile–upper quartile).");
     for (title, table) in rows::tables() {
         println!("\n### {title}\n");
-        println!("| Row | Meaning | proved | plain | fast | proved per second | proved / plain | proved / fast |");
-        println!("|---|---|---:|---:|---:|---:|---:|---:|");
+        print_head(title.ends_with("alls"));
         let mut medians = Vec::new();
         for planned in table {
             let row = (planned.make)();
             let times = measure(&row, repetitions);
             print_row(&row, &times);
-            medians.push(times.map(|times| times.median()));
+            medians.push([0, 1, 2].map(|place| times[place].median()));
         }
         if title.starts_with("Growth") {
             print_growth(&medians);
@@ -182,8 +182,19 @@ fn print_step(step: &str, linear: usize, from: [f64; 3], to: [f64; 3]) {
     println!("| {step} | {linear} | {proved:.2} | {plain:.2} | {fast:.2} |");
 }
 
-fn print_row(row: &Row, [proved, plain, fast]: &[Times; 3]) {
-    println!(
+/// The head of a table; where calls are made it has a column for the model without the test.
+fn print_head(calls: bool) {
+    let (more, line) = match calls {
+        true => (" untested | proved / untested |", "---:|---:|"),
+        false => ("", ""),
+    };
+    println!("| Row | Meaning | proved | plain | fast | proved per second | proved / plain | proved / fast |{more}");
+    println!("|---|---|---:|---:|---:|---:|---:|---:|{line}");
+}
+
+fn print_row(row: &Row, times: &[Times]) {
+    let [proved, plain, fast] = [0, 1, 2].map(|place| &times[place]);
+    print!(
         "| {} | {} | {} | {} | {} | {:.0} | {:.3} | {:.2} |",
         row.name,
         row.meaning,
@@ -194,6 +205,11 @@ fn print_row(row: &Row, [proved, plain, fast]: &[Times; 3]) {
         proved.median() / plain.median(),
         proved.median() / fast.median()
     );
+    if let Some(untested) = times.get(3) {
+        let ratio = proved.median() / untested.median();
+        print!(" {} | {ratio:.2} |", untested.shown());
+    }
+    println!();
 }
 
 /// The processor's name.

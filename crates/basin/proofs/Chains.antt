@@ -10,7 +10,7 @@ use borrow.Author.Tests.{le-leb, lt-leb, eq-eqb, ne-eqb, not-true, not-false}
 stop : (t x : Bool) → t ≡ false → false ≡ (t && x)
 stop t x e = rw e
 
-go : (t x r : Bool) → t ≡ true → r ≡ x → r ≡ (t && x)
+pub go : (t x r : Bool) → t ≡ true → r ≡ x → r ≡ (t && x)
 go t x r e h = rw e h
 
 -- The same of a comparison.

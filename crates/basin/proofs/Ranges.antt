@@ -56,13 +56,17 @@ storage-rest z f e h g =
 pub storage-read : {r : Bool} (z : ℤ) → SFits w64 z → r ≡ isStorage (toZ w64 (ofZ w64 z)) → r ≡ isStorage z
 storage-read z f e = e ∙ ap isStorage (whole z f)
 
+-- A difference is not negative where no more is taken off than is there.
+pub less-leb : {z : ℤ} {a b : ℕ} → Less z a b → leb b a ≡ nonNeg z
+less-leb {a = a} {b = b} p =
+    by-bool (leb b a)
+    (λ e. e ∙ sym (less-nonNeg p (leb-true b a e)))
+    (λ e. e ∙ sym (less-negative p (leb-false b a e)))
+
 -- Recharge is not negative where storage falls by no more than it rises and is discharged.
 pub recharged : (a : Aquifer) (rise fall : ℕ) → rise ≡ above (a .storage) → fall ≡ below (a .storage)
     → leb fall (rise + a .natural + a .pumped) ≡ nonNeg (recharge a)
 recharged a rise fall r f =
     let total = rise + a .natural + a .pumped in
     let p : Less (pos total -ℤ pos fall) total fall = record { parts = omega (arith, less-minus (less-pos total) (less-pos fall) .parts) } in
-    rw (← recharge-is a rise fall r f)
-    (by-bool (leb fall total)
-    (λ e. e ∙ sym (less-nonNeg p (leb-true fall total e)))
-    (λ e. e ∙ sym (less-negative p (leb-false fall total e))))
+    rw (← recharge-is a rise fall r f) (less-leb p)

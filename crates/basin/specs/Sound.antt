@@ -12,7 +12,7 @@ use Rattle.model.specs.declared.Aquifer.{Aquifer}
 use Rattle.model.specs.declared.Title.{Title}
 use Rattle.model.specs.declared.Title.the-variants.{UnitWithdrawal, AquiferWithdrawal, UnitTransfer, AquiferTransfer}
 use Rattle.model.specs.declared.Place.{Place}
-use Rattle.model.specs.Fresh.{emptyUnit, emptyAquifer}
+use Rattle.model.specs.Fresh.{emptyUnit, emptyAquifer, emptyPlace}
 use Rattle.model.specs.View.{View, termLimit}
 use Rattle.river.specs.Flow.{flow}
 use Rattle.river.specs.Wells.{recharge}
@@ -106,6 +106,33 @@ soundAquifers v = every (v .aquifers) (λ j. soundAquifer (v .aquifer j))
 
 abbrev pub soundTitles : View → Bool
 soundTitles v = every (v .given) (λ k. soundPlace (v .units) (v .aquifers) (v .place k))
+
+-- Every unit, and every aquifer, is sound, and none of its entries is exceeded by its titles.
+abbrev pub unitsHold : View → Bool
+unitsHold v = soundUnits v && every (v .units) (coveredUnit v)
+
+abbrev pub aquifersHold : View → Bool
+aquifersHold v = soundAquifers v && every (v .aquifers) (coveredAquifer v)
+
+-- The titles in force, the aquifers and the units.
+abbrev pub entriesHold : View → Bool
+entriesHold v = soundTitles v && (aquifersHold v && unitsHold v)
+
+-- The view of units, aquifers and titles with their counts: that of a balance is of its parts.
+abbrev pub partsView : List Unit → ℕ → List Aquifer → ℕ → List Place → ℕ → View
+partsView us n ws m ts given =
+    record {
+      units = n;
+      unit = λ k. getD us k emptyUnit;
+      aquifers = m;
+      aquifer = λ k. getD ws k emptyAquifer;
+      given = given;
+      place = λ k. getD ts k emptyPlace;
+    }
+
+-- No more is lost than gained at each of the first n units.
+abbrev pub balanced : ℕ → List ℕ → List ℕ → Bool
+balanced n gained lost = every n (λ j. leb (getD lost j 0) (getD gained j 0))
 
 -- No flow is negative.
 abbrev pub flowing : View → Bool

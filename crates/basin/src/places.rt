@@ -1,13 +1,8 @@
-// The places of the register: titles in force.
+// The fields of a title.
 ghost use mathlib.Core.Path.{_≡_};
 ghost use mathlib.Core.Bool.{_&&_};
-ghost use Prim.Native.Nat.{_≤_};
-ghost use lib.ListN.{getD};
-ghost use Rattle.laws.specs.Sum.{every};
-ghost use Rattle.model.specs.Fresh.{emptyPlace};
 ghost use Rattle.basin.specs.Sound as sounds;
 use model::Balance;
-use model::Place;
 use model::Title;
 
 // A number from 1 to the last.
@@ -54,7 +49,7 @@ fn one_exists(last: usize, number: u8, volume: u32) -> bool
 }
 
 // A title's units, aquifers and use exist, and its volume is in its range.
-fn title_sound(t: Title, units: usize, aquifers: usize) -> bool
+pub fn title_sound(t: Title, units: usize, aquifers: usize) -> bool
     ensures { λ r. ⌜ r ≡ sounds.soundTitle units aquifers t ⌝ }
 {
     match t {
@@ -71,32 +66,4 @@ fn title_sound(t: Title, units: usize, aquifers: usize) -> bool
             volume,
         } => both_exist(aquifers, aquifer, units, unit, volume),
     }
-}
-
-// A place is sound if its title is, or is not in force.
-fn place_sound(p: Place, units: usize, aquifers: usize) -> bool
-    ensures { λ r. ⌜ r ≡ sounds.soundPlace units aquifers p ⌝ }
-{
-    let title = p.title;
-    let in_force = p.in_force;
-    if in_force {
-        return title_sound(title, units, aquifers);
-    }
-    true
-}
-
-// Every title in force is sound.
-pub fn titles_sound(titles: [Place; 256], given: usize, units: usize, aquifers: usize) -> bool
-    requires { ⌜ given ≤ 256 ⌝ }
-    ensures { λ r. ⌜ r ≡ every given (λ k. sounds.soundPlace units aquifers (getD titles k emptyPlace)) ⌝ }
-{
-    let mut k = 0;
-    while k < given {
-        let p = titles[k];
-        if !place_sound(p, units, aquifers) {
-            return false;
-        }
-        k += 1;
-    }
-    true
 }

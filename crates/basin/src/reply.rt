@@ -5,7 +5,7 @@ ghost use Rattle.model.specs.View.{viewOf};
 ghost use Rattle.figures.specs.Figures.{noUnitFigures, noAquiferFigures};
 ghost use Rattle.basin.specs.Figures as replies;
 use crate::Figures;
-use crate::test::sound;
+use crate::test::tested;
 use figures::AquiferFigures;
 use figures::UnitFigures;
 use model::Answer;
@@ -39,7 +39,11 @@ fn no_aquifers() -> [AquiferFigures; 32]
 pub fn figures(b: Balance) -> Figures
     ensures { λ r. ⌜ r ≡ replies.figuresReply (viewOf b) ⌝ }
 {
-    if !sound(b) {
+    let mut gained = [0u64; 64];
+    let mut lost = [0u64; 64];
+    let mut before = [0u64; 64];
+    let mut arrived = [0u64; 64];
+    if !tested(b, &mut gained, &mut lost, &mut before, &mut arrived) {
         return Figures {
             answer: Answer::Refused(0),
             units: no_units(),
@@ -52,7 +56,7 @@ pub fn figures(b: Balance) -> Figures
     let aquifers = b.aquifers;
     Figures {
         answer: Answer::Accepted,
-        units: figures::unit_figures(units, n),
+        units: figures::unit_figures(units, n, &gained, &lost, &before, &arrived),
         aquifers: figures::aquifer_figures(aquifers, m),
     }
 }

@@ -1,14 +1,19 @@
 // The test for 0.
 ghost use mathlib.Core.Path.{_≡_};
-ghost use mathlib.Core.Bool.{_&&_};
+ghost use mathlib.Core.Bool.{true, _&&_};
+ghost use Prim.Native.Nat.{_≤_};
 ghost use lib.Dec.{leb};
 ghost use Rattle.model.specs.View.{viewOf};
+ghost use Rattle.river.specs.Passes.{Clear, Flows};
+ghost use Rattle.river.specs.Units.{unitsView};
 ghost use Rattle.basin.specs.Sound as sounds;
 use crate::cover::aquifers_hold;
 use crate::cover::units_hold;
-use crate::places::titles_sound;
+use crate::places::title_sound;
+use model::Aquifer;
 use model::Balance;
-use model::Found;
+use model::Place;
+use model::Unit;
 
 // The counts are within their limits.
 fn counts_sound(units: usize, aquifers: usize, given: usize) -> bool
@@ -23,9 +28,78 @@ fn counts_sound(units: usize, aquifers: usize, given: usize) -> bool
     given <= Balance::TITLES
 }
 
-// A balance is sound if it has none of the faults for which every call first gives 0.
-pub fn sound(b: Balance) -> bool
+// Every title in force is sound; every aquifer and every unit is sound, and none of its entries is exceeded by its titles. One walk over
+// the titles tests each and adds it up.
+fn entries_hold(
+    units: [Unit; 64],
+    n: usize,
+    aquifers: [Aquifer; 32],
+    m: usize,
+    titles: [Place; 256],
+    given: usize,
+) -> bool
+    requires { ⌜ (n ≤ 64) × (m ≤ 32) × (given ≤ 256) ⌝ }
+    ensures { λ r. ⌜ r ≡ sounds.entriesHold (sounds.partsView units n aquifers m titles given) ⌝ }
+{
+    let mut extraction = [0u64; 64];
+    let mut exports = [0u64; 64];
+    let mut imports = [0u64; 64];
+    let mut returns = [0u64; 64];
+    let mut wells = [0u64; 64];
+    let mut k = 0;
+    while k < given {
+        let p = titles[k];
+        let title = p.title;
+        let in_force = p.in_force;
+        k += 1;
+        if in_force {
+            if !title_sound(title, n, m) {
+                return false;
+            }
+            titles::add(
+                title,
+                &mut extraction,
+                &mut exports,
+                &mut imports,
+                &mut returns,
+                &mut wells,
+            );
+        }
+    }
+    if !aquifers_hold(aquifers, m, &wells) {
+        return false;
+    }
+    units_hold(units, n, &extraction, &exports, &imports, &returns)
+}
+
+// No more is lost than gained at any unit.
+fn flowing<'a>(n: usize, gained: &'a [u64; 64], lost: &'a [u64; 64]) -> bool
+    requires { ⌜ n ≤ 64 ⌝ }
+    ensures { λ r. ⌜ r ≡ sounds.balanced n (now (gained .entry)) (now (lost .entry)) ⌝ }
+{
+    let mut i = 0;
+    while i < n {
+        if gained[i] < lost[i] {
+            return false;
+        }
+        i += 1;
+    }
+    true
+}
+
+// The test for 0, with four arrays of zeros for the forward pass over the units. What that leaves in them serves the figures of a sound
+// balance.
+pub fn tested(
+    b: Balance,
+    gained: &mut [u64; 64],
+    lost: &mut [u64; 64],
+    before: &mut [u64; 64],
+    arrived: &mut [u64; 64],
+) -> bool
+    requires { ⌜ Clear (now gained) (now lost) (now before) (now arrived) ⌝ }
     ensures { λ r. ⌜ r ≡ sounds.sound (viewOf b) ⌝ }
+    ensures { λ r. ⌜ (r ≡ true → Flows (unitsView (b .units) (b .«unit_count»))
+        (now (gained .exit)) (now (lost .exit)) (now (before .exit)) (now (arrived .exit))) ⌝ }
 {
     let n = b.unit_count;
     let m = b.aquifer_count;
@@ -34,28 +108,22 @@ pub fn sound(b: Balance) -> bool
         return false;
     }
     let titles = b.titles;
-    if !titles_sound(titles, given, n, m) {
-        return false;
-    }
-    let sums = titles::titled(titles, given);
-    let units = b.units;
-    if !units_hold(
-        units,
-        n,
-        &sums.extraction,
-        &sums.exports,
-        &sums.imports,
-        &sums.returns,
-    ) {
-        return false;
-    }
     let aquifers = b.aquifers;
-    if !aquifers_hold(aquifers, m, &sums.wells) {
+    let units = b.units;
+    if !entries_hold(units, n, aquifers, m, titles, given) {
         return false;
     }
-    let found = river::first_negative(units, n);
-    match found {
-        Found::At(_) => false,
-        Found::Nothing => true,
-    }
+    river::flow_amounts(units, n, gained, lost, before, arrived);
+    flowing(n, gained, lost)
+}
+
+// A balance is sound if it has none of the faults for which every call first gives 0.
+pub fn sound(b: Balance) -> bool
+    ensures { λ r. ⌜ r ≡ sounds.sound (viewOf b) ⌝ }
+{
+    let mut gained = [0u64; 64];
+    let mut lost = [0u64; 64];
+    let mut before = [0u64; 64];
+    let mut arrived = [0u64; 64];
+    tested(b, &mut gained, &mut lost, &mut before, &mut arrived)
 }

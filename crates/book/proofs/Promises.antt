@@ -32,6 +32,7 @@ use Rattle.basin.proofs.Soundness.{UnitSound, AquiferSound, sound-of, fresh-sou
 use Rattle.record.specs.declared.UnitRecord.{UnitRecord}
 use Rattle.record.specs.declared.Mark.{Mark}
 use Rattle.record.specs.declared.Mark.the-variants.{Un, Su, Pr, Af, Ac, Call, Unknown}
+use Rattle.book.specs.declared.Opened.{Opened}
 use Rattle.book.specs.declared.Next.{Next}
 use Rattle.book.specs.declared.Next.the-variants.{Ends, Refused, Opens, Grows, Adds}
 use Rattle.record.specs.Bytes.{bits8, bits16, bits32}
@@ -218,6 +219,10 @@ module _ (P : Outcome → Type 0) (fails : (n p : ℕ) → P (refused n p))
 -- Opening never hands out a balance that falls under 0.
 pub opening-sound : (s : List ℕ) → sound (viewOf (opened s .balance)) ≡ true
 opening-sound s = through-reading SoundAfter (λ n p. fresh-sound) (λ d good e m f at. description-sound d good e m f) s
+
+-- The same of what reading a book gave.
+pub opened-sound : (s : List ℕ) (o : Opened) → o ≡ opened s → sound (viewOf (o .balance)) ≡ true
+opened-sound s o e = ap (λ (x : Opened). sound (viewOf (x .balance))) e ∙ opening-sound s
 
 -- Every unit of the description, where there is one, is closed.
 abbrev AllClosed : Outcome → Type 0

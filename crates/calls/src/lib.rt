@@ -1,5 +1,7 @@
 // The calls of a book, run over a balance one after the other.
 ghost use mathlib.Core.Path.{_≡_};
+ghost use Rattle.model.specs.View.{viewOf};
+ghost use Rattle.basin.specs.Sound as sounds;
 ghost use Rattle.record.specs.Calls as ends;
 ghost use Rattle.calls.specs.Running as running;
 use model::Answer;
@@ -14,11 +16,20 @@ pub struct Ran {
     pub balance: Balance,
 }
 
-// Runs every call that stands in a book from an offset on. One test for 0 serves them all: a call keeps the balance as sound as it is.
+// Runs every call that stands in a book from an offset on.
 pub fn run(s: &[u8], from: usize, balance: Balance) -> Ran
     ensures { λ r. ⌜ r ≡ running.ran (now (s .entry)) from balance ⌝ }
 {
     let sound = basin::sound(balance);
+    run_tested(s, from, balance, sound)
+}
+
+// The same over a balance that was tested for 0: `sound` says what the test gave. It serves every call, since an accepted call leaves a
+// sound balance.
+pub fn run_tested(s: &[u8], from: usize, balance: Balance, sound: bool) -> Ran
+    requires { ⌜ sound ≡ sounds.sound (viewOf balance) ⌝ }
+    ensures { λ r. ⌜ r ≡ running.ran (now (s .entry)) from balance ⌝ }
+{
     let mut b = balance;
     let mut at = from;
     let mut left = s.len() + 1;
@@ -32,12 +43,11 @@ pub fn run(s: &[u8], from: usize, balance: Balance) -> Ran
                 return failed(number, at, b);
             }
             CallAt::Asks { call, to } => {
-                let reply = register::ask_tested(b, sound, call);
-                let answer = reply.answer;
+                let answer = register::decide(b, sound, call);
                 at = to;
                 match answer {
                     Answer::Accepted => {
-                        b = reply.balance;
+                        b = register::perform(b, call);
                     }
                     Answer::Refused(_) => {}
                 }

@@ -30,11 +30,11 @@ use Rattle.record.specs.Record.{unitOf, noUnit}
 use Rattle.book.specs.Reading.{Description, balanceOf, read, reading, opened}
 use Rattle.book.proofs.Promises.{opening-sound, accepted-exactly}
 use Rattle.register.specs.declared.Reply.{Reply}
-use Rattle.effect.specs.Effect.{unexported}
+use Rattle.effect.specs.Effect.{unexported, changeUnit}
 use Rattle.effect.specs.Granted.{granted, raiseAt, posted, postedUnits, postedWells, Sized}
 use Rattle.refusal.specs.Grant.{noWater, grantRefusal}
 use Rattle.register.specs.Reply.{replied}
-use Rattle.effect.specs.Cancelled.{titleOf, cancelled, changeUnit, loweredUnits, loweredWells, withoutTitle}
+use Rattle.effect.specs.Cancelled.{titleOf, cancelled, loweredUnits, loweredWells, withoutTitle}
 use Rattle.register.specs.Cancel.{inForce, cancelRefusal}
 use Rattle.register.specs.Calls.{callRefusal, callReply, after}
 use Rattle.refusal.specs.Steps.{earlyNumber}

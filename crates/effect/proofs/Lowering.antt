@@ -10,12 +10,13 @@ use Rattle.model.specs.declared.Unit.{Unit}
 use Rattle.model.specs.declared.Aquifer.{Aquifer}
 use Rattle.model.specs.declared.Title.{Title}
 use Rattle.model.specs.declared.Title.the-variants.{UnitWithdrawal, AquiferWithdrawal, UnitTransfer, AquiferTransfer}
+use Rattle.model.specs.declared.Balance.{Balance}
 use Rattle.model.specs.Fresh.{emptyUnit, emptyAquifer}
 use Rattle.model.specs.View.{View}
 use Rattle.titles.specs.Adds.{adds, returned, titled}
 use Rattle.titles.specs.declared.Slot.the-variants.{Extraction, Exports, Imports, Returns, WellExtraction}
-use Rattle.effect.specs.Effect.{unwithdrawn, unexported, unimported, unpumped}
-use Rattle.effect.specs.Cancelled.{loweredUnit, loweredAquifer, changeUnit, changeWell, loweredUnits, loweredWells, Held}
+use Rattle.effect.specs.Effect.{unwithdrawn, unexported, unimported, unpumped, changeUnit, changeWell}
+use Rattle.effect.specs.Cancelled.{loweredUnit, loweredAquifer, loweredUnits, loweredWells, Held, UnitsHeld, WellsHeld, Takable}
 use Rattle.effect.proofs.Raising.{here, elsewhere}
 use Rattle.effect.proofs.Posting.{other}
 
@@ -122,3 +123,17 @@ well-lowered v (AquiferWithdrawal a x) ws k l n =
 well-lowered v (UnitTransfer g r x) ws k l n = sym (pumped-is (UnitTransfer g r x) k (getD ws k emptyAquifer) _ (kept _ 0 refl))
 well-lowered v (AquiferTransfer a u x) ws k l n =
     well-changed (AquiferTransfer a u x) ws a x k (n .0) (omega (arith, n .1)) (λ e. here-at a k x (n .0) e) (λ e. elsewhere a k x (other a k (n .0) e))
+
+-- What a title that can be taken back added is held.
+pub units-held : (b : Balance) (t : Title) → Takable b t → UnitsHeld t (b .units)
+units-held b (UnitWithdrawal u r x) k = (k .held .0, omega (arith, k .held .1, k .units), k .held .2, k .held .3)
+units-held b (AquiferWithdrawal a x) k = k .held .0
+units-held b (UnitTransfer g r x) k =
+    (k .held .0, omega (arith, k .held .1, k .units), k .held .2, omega (arith, k .held .3, k .units), k .held .4, k .held .5)
+units-held b (AquiferTransfer a u x) k = (k .held .2, omega (arith, k .held .3, k .units), k .held .5)
+
+pub wells-held : (b : Balance) (t : Title) → Takable b t → WellsHeld t (b .aquifers)
+wells-held b (UnitWithdrawal u r x) k = k .held .0
+wells-held b (AquiferWithdrawal a x) k = (k .held .0, omega (arith, k .held .1, k .aquifers), k .held .2)
+wells-held b (UnitTransfer g r x) k = k .held .0
+wells-held b (AquiferTransfer a u x) k = (k .held .0, omega (arith, k .held .1, k .aquifers), k .held .4)

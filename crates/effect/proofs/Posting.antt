@@ -1,12 +1,13 @@
 -- The view of a balance with a title in is the view with that title granted. Assumes nothing.
-use Prim.Native.Nat.{ℕ, suc, pred, _+_, _≤_, _<_}
+use Prim.Native.Nat.{ℕ, zero, suc, pred, _+_, _-_, _≤_, _<_}
 use mathlib.Core.Path.{_≡_, refl, sym, ap, _∙_}
 use mathlib.Core.Bool.{true, cond}
-use mathlib.Core.List.{List}
+use mathlib.Core.List.{List, [], _∷_}
 use lib.Dec.{eqb}
 use lib.ListN.{length, getD, set, length-set}
 use lib.Seq.{getD-set-same, getD-set-other}
 use native.Mathlib.Omega.{arith}
+use native.Mathlib.Numerals.{sub-one}
 use borrow.Author.Tests.{eq-eqb, ne-eqb}
 use Rattle.laws.proofs.Cases.{by-eq}
 use Rattle.model.specs.declared.Unit.{Unit}
@@ -19,8 +20,9 @@ use Rattle.model.specs.Fresh.{emptyUnit, emptyAquifer, emptyPlace}
 use Rattle.model.specs.View.{View, viewOf}
 use Rattle.titles.specs.Adds.{adds, returned}
 use Rattle.titles.specs.declared.Slot.the-variants.{Extraction, Exports, Imports, Returns, WellExtraction}
-use Rattle.effect.specs.Granted.{granted, raisedUnit, raisedAquifer, posted, postedUnits, postedWells, Sized, Named, Grantable}
-use Rattle.effect.proofs.Raising.{elsewhere}
+use Rattle.effect.specs.Effect.{withdrawn, exported, imported, pumped, unitAt, aquiferAt}
+use Rattle.effect.specs.Granted.{granted, raisedUnit, raisedAquifer, raiseAt, posted, postedUnits, postedWells, Sized, Named, UnitsFit, WellsFit, Grantable}
+use Rattle.effect.proofs.Raising.{elsewhere, raised-withdrawal, raised-export, raised-import, raised-bring, raised-pump, raised-source}
 
 none : (e a : ℕ) → a ≡ 0 → e + a ≡ e
 none e a q = omega arith
@@ -125,3 +127,58 @@ posted-view b t s g = λ i.
       given = next (b .given) i;
       place = λ k. place-set (b .titles) (b .given) k (record { title = t; «in_force» = true }) (omega (arith, s .titles, g .room)) i;
     }
+
+-- The imports of a unit are what they were, where another entry of one unit changes.
+pub imports-kept : (f : Unit → Unit) → ((u : Unit) → f u .imports ≡ u .imports) → (us : List Unit) (g k : ℕ)
+    → getD (set us g (f (getD us g emptyUnit))) k emptyUnit .imports ≡ getD us k emptyUnit .imports
+imports-kept f e [] g k = refl
+imports-kept f e (u ∷ us) zero zero = e u
+imports-kept f e (u ∷ us) zero (suc k) = refl
+imports-kept f e (u ∷ us) (suc g) zero = refl
+imports-kept f e (u ∷ us) (suc g) (suc k) = imports-kept f e us g k
+
+-- The index of a number in the code is the number less one.
+module _ (x : ℕ) where
+  pub withdrawal-posted : (us : List Unit) (u r : ℕ) → 0 < u
+      → set us (u - 1) (withdrawn (getD us (u - 1) emptyUnit) x (returned r x)) ≡ postedUnits (UnitWithdrawal u r x) us
+  withdrawal-posted us u r h =
+      ap (λ (k : ℕ). set us k (withdrawn (getD us k emptyUnit) x (returned r x))) (sub-one u)
+      ∙ ap (set us (pred u)) (sym (raised-withdrawal u r x (unitAt u us) h))
+
+  pub transfer-posted : (us : List Unit) (g r : ℕ) → 0 < g → 0 < r → (g ≡ r → ⊥)
+      → let given = set us (g - 1) (exported (getD us (g - 1) emptyUnit) x) in
+      set given (r - 1) (imported (getD given (r - 1) emptyUnit) x) ≡ postedUnits (UnitTransfer g r x) us
+  transfer-posted us g r h k e =
+      let given = ap (λ (j : ℕ). set us j (exported (getD us j emptyUnit) x)) (sub-one g)
+      ∙ ap (set us (pred g)) (sym (raised-export g r x (unitAt g us) h e)) in
+      (λ i. set (given i) (sub-one r i) (imported (getD (given i) (sub-one r i) emptyUnit) x))
+      ∙ ap (set (raiseAt (UnitTransfer g r x) g us) (pred r)) (sym (raised-import g r x (unitAt r (raiseAt (UnitTransfer g r x) g us)) k e))
+
+  pub bringing-posted : (us : List Unit) (a u : ℕ) → 0 < u
+      → set us (u - 1) (imported (getD us (u - 1) emptyUnit) x) ≡ postedUnits (AquiferTransfer a u x) us
+  bringing-posted us a u h =
+      ap (λ (k : ℕ). set us k (imported (getD us k emptyUnit) x)) (sub-one u) ∙ ap (set us (pred u)) (sym (raised-bring a u x (unitAt u us) h))
+
+  pub pumping-posted : (ws : List Aquifer) (a : ℕ) → 0 < a
+      → set ws (a - 1) (pumped (getD ws (a - 1) emptyAquifer) x) ≡ postedWells (AquiferWithdrawal a x) ws
+  pumping-posted ws a h =
+      ap (λ (k : ℕ). set ws k (pumped (getD ws k emptyAquifer) x)) (sub-one a) ∙ ap (set ws (pred a)) (sym (raised-pump a x (aquiferAt a ws) h))
+
+  pub source-posted : (ws : List Aquifer) (a u : ℕ) → 0 < a
+      → set ws (a - 1) (pumped (getD ws (a - 1) emptyAquifer) x) ≡ postedWells (AquiferTransfer a u x) ws
+  source-posted ws a u h =
+      ap (λ (k : ℕ). set ws k (pumped (getD ws k emptyAquifer) x)) (sub-one a) ∙ ap (set ws (pred a)) (sym (raised-source a u x (aquiferAt a ws) h))
+
+-- What a grantable title raises fits.
+pub units-fit : (b : Balance) (t : Title) → Grantable b t → UnitsFit t (b .units)
+units-fit b (UnitWithdrawal u r x) g = (g .named .0, omega (arith, g .named .1, g .units), g .fits .0, g .fits .1)
+units-fit b (AquiferWithdrawal a x) g = g .named .0
+units-fit b (UnitTransfer n r x) g =
+    (g .named .0, omega (arith, g .named .1, g .units), g .named .2, omega (arith, g .named .3, g .units), g .named .4, g .fits .0, g .fits .1)
+units-fit b (AquiferTransfer a u x) g = (g .named .2, omega (arith, g .named .3, g .units), g .fits .1)
+
+pub wells-fit : (b : Balance) (t : Title) → Grantable b t → WellsFit t (b .aquifers)
+wells-fit b (UnitWithdrawal u r x) g = g .named .0
+wells-fit b (AquiferWithdrawal a x) g = (g .named .0, omega (arith, g .named .1, g .aquifers), g .fits)
+wells-fit b (UnitTransfer n r x) g = g .named .0
+wells-fit b (AquiferTransfer a u x) g = (g .named .0, omega (arith, g .named .1, g .aquifers), g .fits .0)

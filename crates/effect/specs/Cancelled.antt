@@ -3,17 +3,16 @@ use Prim.Native.Nat.{ℕ, pred, _-_, _≤_, _<_}
 use mathlib.Core.Bool.{false, cond}
 use mathlib.Core.List.{List}
 use lib.Dec.{eqb}
-use lib.ListN.{getD, set}
+use lib.ListN.{set}
 use Rattle.model.specs.declared.Unit.{Unit}
 use Rattle.model.specs.declared.Aquifer.{Aquifer}
 use Rattle.model.specs.declared.Title.{Title}
 use Rattle.model.specs.declared.Title.the-variants.{UnitWithdrawal, AquiferWithdrawal, UnitTransfer, AquiferTransfer}
 use Rattle.model.specs.declared.Balance.{Balance}
-use Rattle.model.specs.Fresh.{emptyUnit, emptyAquifer}
 use Rattle.model.specs.View.{View, viewOf}
 use Rattle.titles.specs.Adds.{adds, returned}
 use Rattle.titles.specs.declared.Slot.the-variants.{Extraction, Exports, Imports, Returns, WellExtraction}
-use Rattle.effect.specs.Effect.{unwithdrawn, unexported, unimported, unpumped}
+use Rattle.effect.specs.Effect.{unwithdrawn, unexported, unimported, unpumped, unitAt, aquiferAt, changeUnit, changeWell}
 
 -- A unit's entries, and an aquifer's, with a title taken back: each lowered by exactly what the title added to it.
 abbrev pub loweredUnit : Title → ℕ → Unit → Unit
@@ -56,13 +55,6 @@ cancelled v n =
       place = λ k. cond (eqb k (pred n)) (record { title = titleOf v n; «in_force» = false }) (v .place k);
     }
 
--- The array of units, or of aquifers, changed at one number.
-abbrev pub changeUnit : ℕ → (Unit → Unit) → List Unit → List Unit
-changeUnit u f us = set us (pred u) (f (getD us (pred u) emptyUnit))
-
-abbrev pub changeWell : ℕ → (Aquifer → Aquifer) → List Aquifer → List Aquifer
-changeWell a f ws = set ws (pred a) (f (getD ws (pred a) emptyAquifer))
-
 -- The units and the aquifers with what a title added taken back.
 abbrev pub loweredUnits : Title → List Unit → List Unit
 loweredUnits (UnitWithdrawal u r x) us = changeUnit u (λ w. unwithdrawn w x (returned r x)) us
@@ -75,18 +67,6 @@ loweredWells (UnitWithdrawal u r x) ws = ws
 loweredWells (AquiferWithdrawal a x) ws = changeWell a (λ w. unpumped w x) ws
 loweredWells (UnitTransfer g r x) ws = ws
 loweredWells (AquiferTransfer a u x) ws = changeWell a (λ w. unpumped w x) ws
-
--- The balance with what a title added taken back.
-abbrev pub lowered : Balance → Title → Balance
-lowered b t =
-    record {
-      units = loweredUnits t (b .units);
-      «unit_count» = b .«unit_count»;
-      aquifers = loweredWells t (b .aquifers);
-      «aquifer_count» = b .«aquifer_count»;
-      titles = b .titles;
-      given = b .given;
-    }
 
 -- The balance with the title under a number out of force; its place keeps the title. Everything else stays as it was.
 abbrev pub withoutTitle : Balance → ℕ → Balance
@@ -108,6 +88,20 @@ Held v (UnitTransfer g r x) =
     (0 < g) × (g ≤ v .units) × (0 < r) × (r ≤ v .units) × (x ≤ v .unit (pred g) .exports) × (x ≤ v .unit (pred r) .imports)
 Held v (AquiferTransfer a u x) =
     (0 < a) × (a ≤ v .aquifers) × (0 < u) × (u ≤ v .units) × (x ≤ v .aquifer (pred a) .extraction) × (x ≤ v .unit (pred u) .imports)
+
+-- The same of the units, and of the aquifers.
+abbrev pub UnitsHeld : Title → List Unit → Type 0
+UnitsHeld (UnitWithdrawal u r x) us = (0 < u) × (u ≤ 64) × (x ≤ unitAt u us .extraction) × (returned r x ≤ unitAt u us .returns)
+UnitsHeld (AquiferWithdrawal a x) us = 0 < a
+UnitsHeld (UnitTransfer g r x) us =
+    (0 < g) × (g ≤ 64) × (0 < r) × (r ≤ 64) × (x ≤ unitAt g us .exports) × (x ≤ unitAt r us .imports)
+UnitsHeld (AquiferTransfer a u x) us = (0 < u) × (u ≤ 64) × (x ≤ unitAt u us .imports)
+
+abbrev pub WellsHeld : Title → List Aquifer → Type 0
+WellsHeld (UnitWithdrawal u r x) ws = 0 < u
+WellsHeld (AquiferWithdrawal a x) ws = (0 < a) × (a ≤ 32) × (x ≤ aquiferAt a ws .extraction)
+WellsHeld (UnitTransfer g r x) ws = 0 < g
+WellsHeld (AquiferTransfer a u x) ws = (0 < a) × (a ≤ 32) × (x ≤ aquiferAt a ws .extraction)
 
 pub record Takable (b : Balance) (t : Title) : Type 0 where
   pub units : b .«unit_count» ≤ 64

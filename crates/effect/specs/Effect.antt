@@ -1,12 +1,13 @@
 -- The parts of what a title does. Assumes nothing.
-use Prim.Native.Nat.{ℕ, _+_, _-_}
-use mathlib.Core.Bool.{true, false}
-use lib.ListN.{set}
+use Prim.Native.Nat.{ℕ, pred, _+_, _-_}
+use mathlib.Core.Bool.{true}
+use mathlib.Core.List.{List}
+use lib.ListN.{getD, set}
 use Rattle.model.specs.declared.Unit.{Unit}
 use Rattle.model.specs.declared.Aquifer.{Aquifer}
 use Rattle.model.specs.declared.Title.{Title}
 use Rattle.model.specs.declared.Place.{Place}
-use Rattle.model.specs.declared.Balance.{Balance}
+use Rattle.model.specs.Fresh.{emptyUnit, emptyAquifer}
 
 -- A unit with a withdrawal and its return, with an export, with an import; an aquifer with an extraction.
 abbrev pub withdrawn : Unit → ℕ → ℕ → Unit
@@ -114,53 +115,20 @@ unpumped a volume =
       extraction = a .extraction - volume;
     }
 
--- The balance with a unit, or an aquifer, at an index.
-abbrev pub withUnit : Balance → ℕ → Unit → Balance
-withUnit b k u =
-    record {
-      units = set (b .units) k u;
-      «unit_count» = b .«unit_count»;
-      aquifers = b .aquifers;
-      «aquifer_count» = b .«aquifer_count»;
-      titles = b .titles;
-      given = b .given;
-    }
+-- The unit, and the aquifer, of a number.
+abbrev pub unitAt : ℕ → List Unit → Unit
+unitAt u us = getD us (pred u) emptyUnit
 
-abbrev pub withAquifer : Balance → ℕ → Aquifer → Balance
-withAquifer b k a =
-    record {
-      units = b .units;
-      «unit_count» = b .«unit_count»;
-      aquifers = set (b .aquifers) k a;
-      «aquifer_count» = b .«aquifer_count»;
-      titles = b .titles;
-      given = b .given;
-    }
+abbrev pub aquiferAt : ℕ → List Aquifer → Aquifer
+aquiferAt a ws = getD ws (pred a) emptyAquifer
+
+-- The array of units, or of aquifers, changed at one number.
+abbrev pub changeUnit : ℕ → (Unit → Unit) → List Unit → List Unit
+changeUnit u f us = set us (pred u) (f (unitAt u us))
+
+abbrev pub changeWell : ℕ → (Aquifer → Aquifer) → List Aquifer → List Aquifer
+changeWell a f ws = set ws (pred a) (f (aquiferAt a ws))
 
 -- The place of a title in force.
 abbrev pub inForce : Title → Place
 inForce t = record { title = t; «in_force» = true }
-
--- The balance with a place as the next one of its register, and one number more given.
-abbrev pub withPlace : Balance → Place → Balance
-withPlace b p =
-    record {
-      units = b .units;
-      «unit_count» = b .«unit_count»;
-      aquifers = b .aquifers;
-      «aquifer_count» = b .«aquifer_count»;
-      titles = set (b .titles) (b .given) p;
-      given = b .given + 1;
-    }
-
--- The balance with a title at an index of the register, out of force.
-abbrev pub left : Balance → ℕ → Title → Balance
-left b k t =
-    record {
-      units = b .units;
-      «unit_count» = b .«unit_count»;
-      aquifers = b .aquifers;
-      «aquifer_count» = b .«aquifer_count»;
-      titles = set (b .titles) k (record { title = t; «in_force» = false });
-      given = b .given;
-    }

@@ -14,6 +14,7 @@ use Rattle.model.specs.Fresh.{emptyUnit, emptyAquifer}
 use Rattle.model.specs.View.{View, viewOf, termLimit}
 use Rattle.titles.specs.Adds.{adds, returned}
 use Rattle.titles.specs.declared.Slot.the-variants.{Extraction, Exports, Imports, Returns, WellExtraction}
+use Rattle.effect.specs.Effect.{unitAt, aquiferAt}
 
 -- A unit's entries, and an aquifer's, with a title in: each raised by what the title adds to it.
 abbrev pub raisedUnit : Title → ℕ → Unit → Unit
@@ -103,6 +104,21 @@ Fits v (UnitWithdrawal u r x) = (v .unit (pred u) .extraction + x ≤ termLimit)
 Fits v (AquiferWithdrawal a x) = v .aquifer (pred a) .extraction + x ≤ termLimit
 Fits v (UnitTransfer g r x) = (v .unit (pred g) .exports + x ≤ termLimit) × (v .unit (pred r) .imports + x ≤ termLimit)
 Fits v (AquiferTransfer a u x) = (v .aquifer (pred a) .extraction + x ≤ termLimit) × (v .unit (pred u) .imports + x ≤ termLimit)
+
+-- The same of the units, and of the aquifers, that the title raises.
+abbrev pub UnitsFit : Title → List Unit → Type 0
+UnitsFit (UnitWithdrawal u r x) us =
+    (0 < u) × (u ≤ 64) × (unitAt u us .extraction + x ≤ termLimit) × (unitAt u us .returns + returned r x ≤ termLimit)
+UnitsFit (AquiferWithdrawal a x) us = 0 < a
+UnitsFit (UnitTransfer g r x) us =
+    (0 < g) × (g ≤ 64) × (0 < r) × (r ≤ 64) × (g ≡ r → ⊥) × (unitAt g us .exports + x ≤ termLimit) × (unitAt r us .imports + x ≤ termLimit)
+UnitsFit (AquiferTransfer a u x) us = (0 < u) × (u ≤ 64) × (unitAt u us .imports + x ≤ termLimit)
+
+abbrev pub WellsFit : Title → List Aquifer → Type 0
+WellsFit (UnitWithdrawal u r x) ws = 0 < u
+WellsFit (AquiferWithdrawal a x) ws = (0 < a) × (a ≤ 32) × (aquiferAt a ws .extraction + x ≤ termLimit)
+WellsFit (UnitTransfer g r x) ws = 0 < g
+WellsFit (AquiferTransfer a u x) ws = (0 < a) × (a ≤ 32) × (aquiferAt a ws .extraction + x ≤ termLimit)
 
 pub record Grantable (b : Balance) (t : Title) : Type 0 where
   pub room : b .given < 256

@@ -2,51 +2,15 @@
 ghost use mathlib.Core.Path.{_≡_};
 ghost use Prim.Native.Nat.{_≤_, _<_, _+_};
 ghost use Rattle.effect.specs.Granted as grants;
-ghost use Rattle.effect.specs.Granted.{Grantable};
+ghost use Rattle.effect.specs.Granted.{Grantable, UnitsFit, WellsFit};
+ghost use lib.ListN.{getD, set};
+ghost use Rattle.model.specs.Fresh.{emptyUnit, emptyAquifer};
 ghost use Rattle.effect.specs.Effect as effects;
-ghost use Rattle.model.specs.declared.Title.the-variants.{UnitWithdrawal, AquiferWithdrawal, UnitTransfer, AquiferTransfer};
 use model::Aquifer;
 use model::Balance;
 use model::Place;
 use model::Title;
 use model::Unit;
-
-// A unit with a withdrawal and its return.
-fn withdrawn(mut u: Unit, volume: u32, back: u32) -> Unit
-    requires { ⌜ (u .extraction + volume ≤ 10000000) × (u .returns + back ≤ 10000000) ⌝ }
-    ensures { λ r. ⌜ r ≡ effects.withdrawn u volume back ⌝ }
-{
-    u.extraction = u.extraction + volume;
-    u.returns = u.returns + back;
-    u
-}
-
-// A unit with an export.
-fn exported(mut u: Unit, volume: u32) -> Unit
-    requires { ⌜ u .exports + volume ≤ 10000000 ⌝ }
-    ensures { λ r. ⌜ r ≡ effects.exported u volume ⌝ }
-{
-    u.exports = u.exports + volume;
-    u
-}
-
-// A unit with an import.
-fn imported(mut u: Unit, volume: u32) -> Unit
-    requires { ⌜ u .imports + volume ≤ 10000000 ⌝ }
-    ensures { λ r. ⌜ r ≡ effects.imported u volume ⌝ }
-{
-    u.imports = u.imports + volume;
-    u
-}
-
-// An aquifer with an extraction.
-fn pumped(mut a: Aquifer, volume: u32) -> Aquifer
-    requires { ⌜ a .extraction + volume ≤ 10000000 ⌝ }
-    ensures { λ r. ⌜ r ≡ effects.pumped a volume ⌝ }
-{
-    a.extraction = a.extraction + volume;
-    a
-}
 
 // The place of a title in force.
 fn in_force(title: Title) -> Place
@@ -58,103 +22,130 @@ fn in_force(title: Title) -> Place
     }
 }
 
-// The balance with a withdrawal from a unit in: its extraction raised by the volume and its returns by what comes back.
-fn post_withdrawal(mut b: Balance, unit: u8, usage: u8, volume: u32) -> Balance
-    requires { ⌜ Grantable b (UnitWithdrawal unit usage volume) ⌝ }
-    ensures { λ r. ⌜ r ≡ grants.posted b (UnitWithdrawal unit usage volume) ⌝ }
+// The units with a withdrawal and its return at the unit of an index.
+fn withdrawn_at(mut units: [Unit; 64], k: usize, volume: u32, back: u32) -> [Unit; 64]
+    requires { ⌜ k < 64 ⌝ }
+    requires { ⌜ (getD units k emptyUnit .extraction + volume ≤ 10000000) × (getD units k emptyUnit .returns + back ≤ 10000000) ⌝ }
+    ensures { λ r. ⌜ r ≡ set units k (effects.withdrawn (getD units k emptyUnit) volume back) ⌝ }
 {
-    let k = (unit as usize) - 1;
-    let u = b.units[k];
-    let raised = withdrawn(u, volume, titles::returned(usage, volume));
-    b.units[k] = raised;
-    let n = b.given;
-    let place = in_force(Title::UnitWithdrawal {
-        unit,
-        usage,
-        volume,
-    });
-    b.titles[n] = place;
-    b.given = n + 1;
-    b
+    let mut u = units[k];
+    u.extraction = u.extraction + volume;
+    u.returns = u.returns + back;
+    units[k] = u;
+    units
 }
 
-// The balance with a withdrawal from an aquifer in.
-fn post_pumping(mut b: Balance, aquifer: u8, volume: u32) -> Balance
-    requires { ⌜ Grantable b (AquiferWithdrawal aquifer volume) ⌝ }
-    ensures { λ r. ⌜ r ≡ grants.posted b (AquiferWithdrawal aquifer volume) ⌝ }
+// The units with an export at the unit of an index.
+fn exported_at(mut units: [Unit; 64], k: usize, volume: u32) -> [Unit; 64]
+    requires { ⌜ (k < 64) × (getD units k emptyUnit .exports + volume ≤ 10000000) ⌝ }
+    ensures { λ r. ⌜ r ≡ set units k (effects.exported (getD units k emptyUnit) volume) ⌝ }
 {
-    let k = (aquifer as usize) - 1;
-    let a = b.aquifers[k];
-    let raised = pumped(a, volume);
-    b.aquifers[k] = raised;
-    let n = b.given;
-    let place = in_force(Title::AquiferWithdrawal { aquifer, volume });
-    b.titles[n] = place;
-    b.given = n + 1;
-    b
+    let mut u = units[k];
+    u.exports = u.exports + volume;
+    units[k] = u;
+    units
 }
 
-// The balance with a transfer from a unit in: the giver's exports and the receiver's imports raised.
-fn post_transfer(mut b: Balance, from: u8, to: u8, volume: u32) -> Balance
-    requires { ⌜ Grantable b (UnitTransfer from to volume) ⌝ }
-    ensures { λ r. ⌜ r ≡ grants.posted b (UnitTransfer from to volume) ⌝ }
+// The units with an import at the unit of an index.
+fn imported_at(mut units: [Unit; 64], k: usize, volume: u32) -> [Unit; 64]
+    requires { ⌜ (k < 64) × (getD units k emptyUnit .imports + volume ≤ 10000000) ⌝ }
+    ensures { λ r. ⌜ r ≡ set units k (effects.imported (getD units k emptyUnit) volume) ⌝ }
 {
-    let g = (from as usize) - 1;
-    let giver = b.units[g];
-    let lowered = exported(giver, volume);
-    b.units[g] = lowered;
-    let k = (to as usize) - 1;
-    let receiver = b.units[k];
-    let raised = imported(receiver, volume);
-    b.units[k] = raised;
-    let n = b.given;
-    let place = in_force(Title::UnitTransfer { from, to, volume });
-    b.titles[n] = place;
-    b.given = n + 1;
-    b
+    let mut u = units[k];
+    u.imports = u.imports + volume;
+    units[k] = u;
+    units
 }
 
-// The balance with a transfer from an aquifer in: the aquifer's extraction and the unit's imports raised.
-fn post_bringing(mut b: Balance, aquifer: u8, unit: u8, volume: u32) -> Balance
-    requires { ⌜ Grantable b (AquiferTransfer aquifer unit volume) ⌝ }
-    ensures { λ r. ⌜ r ≡ grants.posted b (AquiferTransfer aquifer unit volume) ⌝ }
+// The aquifers with an extraction at the aquifer of an index.
+fn pumped_at(mut aquifers: [Aquifer; 32], k: usize, volume: u32) -> [Aquifer; 32]
+    requires { ⌜ (k < 32) × (getD aquifers k emptyAquifer .extraction + volume ≤ 10000000) ⌝ }
+    ensures { λ r. ⌜ r ≡ set aquifers k (effects.pumped (getD aquifers k emptyAquifer) volume) ⌝ }
 {
-    let w = (aquifer as usize) - 1;
-    let a = b.aquifers[w];
-    let more = pumped(a, volume);
-    b.aquifers[w] = more;
-    let k = (unit as usize) - 1;
-    let u = b.units[k];
-    let raised = imported(u, volume);
-    b.units[k] = raised;
-    let n = b.given;
-    let place = in_force(Title::AquiferTransfer {
-        aquifer,
-        unit,
-        volume,
-    });
-    b.titles[n] = place;
-    b.given = n + 1;
-    b
+    let mut a = aquifers[k];
+    a.extraction = a.extraction + volume;
+    aquifers[k] = a;
+    aquifers
 }
 
-// The balance with a title in.
-pub fn post(b: Balance, t: Title) -> Balance
-    requires { ⌜ Grantable b t ⌝ }
-    ensures { λ r. ⌜ r ≡ grants.posted b t ⌝ }
+// The units with a title in.
+pub fn posted_units(units: [Unit; 64], t: Title) -> [Unit; 64]
+    requires { ⌜ UnitsFit t units ⌝ }
+    ensures { λ r. ⌜ r ≡ grants.postedUnits t units ⌝ }
 {
     match t {
         Title::UnitWithdrawal {
             unit,
             usage,
             volume,
-        } => post_withdrawal(b, unit, usage, volume),
-        Title::AquiferWithdrawal { aquifer, volume } => post_pumping(b, aquifer, volume),
-        Title::UnitTransfer { from, to, volume } => post_transfer(b, from, to, volume),
+        } => withdrawn_at(
+            units,
+            (unit as usize) - 1,
+            volume,
+            titles::returned(usage, volume),
+        ),
+        Title::AquiferWithdrawal {
+            aquifer: _,
+            volume: _,
+        } => units,
+        Title::UnitTransfer { from, to, volume } => {
+            let given = exported_at(units, (from as usize) - 1, volume);
+            imported_at(given, (to as usize) - 1, volume)
+        }
         Title::AquiferTransfer {
-            aquifer,
+            aquifer: _,
             unit,
             volume,
-        } => post_bringing(b, aquifer, unit, volume),
+        } => imported_at(units, (unit as usize) - 1, volume),
+    }
+}
+
+// The aquifers with a title in.
+pub fn posted_wells(aquifers: [Aquifer; 32], t: Title) -> [Aquifer; 32]
+    requires { ⌜ WellsFit t aquifers ⌝ }
+    ensures { λ r. ⌜ r ≡ grants.postedWells t aquifers ⌝ }
+{
+    match t {
+        Title::UnitWithdrawal {
+            unit: _,
+            usage: _,
+            volume: _,
+        } => aquifers,
+        Title::AquiferWithdrawal { aquifer, volume } => pumped_at(
+            aquifers,
+            (aquifer as usize) - 1,
+            volume,
+        ),
+        Title::UnitTransfer {
+            from: _,
+            to: _,
+            volume: _,
+        } => aquifers,
+        Title::AquiferTransfer {
+            aquifer,
+            unit: _,
+            volume,
+        } => pumped_at(aquifers, (aquifer as usize) - 1, volume),
+    }
+}
+
+// The balance with a title in: its entries raised, the title in the next place and in force, and one number more given.
+pub fn post(b: Balance, t: Title) -> Balance
+    requires { ⌜ Grantable b t ⌝ }
+    ensures { λ r. ⌜ r ≡ grants.posted b t ⌝ }
+{
+    let units = b.units;
+    let aquifers = b.aquifers;
+    let mut titles = b.titles;
+    let given = b.given;
+    let place = in_force(t);
+    titles[given] = place;
+    Balance {
+        units: posted_units(units, t),
+        unit_count: b.unit_count,
+        aquifers: posted_wells(aquifers, t),
+        aquifer_count: b.aquifer_count,
+        titles,
+        given: given + 1,
     }
 }

@@ -1,7 +1,9 @@
 // A title taken back: what it added to each entry is lowered by the same, and its place stays out of force.
 ghost use mathlib.Core.Path.{_≡_};
 ghost use Prim.Native.Nat.{_≤_, _<_};
-ghost use Rattle.model.specs.declared.Title.the-variants.{UnitWithdrawal, AquiferWithdrawal, UnitTransfer, AquiferTransfer};
+ghost use Rattle.model.specs.View.{viewOf};
+ghost use lib.ListN.{getD, set};
+ghost use Rattle.model.specs.Fresh.{emptyUnit, emptyAquifer};
 ghost use Rattle.effect.specs.Effect as effects;
 ghost use Rattle.effect.specs.Cancelled as cancels;
 use model::Aquifer;
@@ -10,129 +12,135 @@ use model::Place;
 use model::Title;
 use model::Unit;
 
-// A unit without a withdrawal and its return.
-fn unwithdrawn(mut u: Unit, volume: u32, back: u32) -> Unit
-    requires { ⌜ (volume ≤ u .extraction) × (back ≤ u .returns) ⌝ }
-    ensures { λ r. ⌜ r ≡ effects.unwithdrawn u volume back ⌝ }
+// The units without a withdrawal and its return at the unit of an index.
+fn unwithdrawn_at(mut units: [Unit; 64], k: usize, volume: u32, back: u32) -> [Unit; 64]
+    requires { ⌜ k < 64 ⌝ }
+    requires { ⌜ (volume ≤ getD units k emptyUnit .extraction) × (back ≤ getD units k emptyUnit .returns) ⌝ }
+    ensures { λ r. ⌜ r ≡ set units k (effects.unwithdrawn (getD units k emptyUnit) volume back) ⌝ }
 {
+    let mut u = units[k];
     u.extraction = u.extraction - volume;
     u.returns = u.returns - back;
-    u
+    units[k] = u;
+    units
 }
 
-// A unit without an export.
-fn unexported(mut u: Unit, volume: u32) -> Unit
-    requires { ⌜ volume ≤ u .exports ⌝ }
-    ensures { λ r. ⌜ r ≡ effects.unexported u volume ⌝ }
+// The units without an export at the unit of an index.
+fn unexported_at(mut units: [Unit; 64], k: usize, volume: u32) -> [Unit; 64]
+    requires { ⌜ (k < 64) × (volume ≤ getD units k emptyUnit .exports) ⌝ }
+    ensures { λ r. ⌜ r ≡ set units k (effects.unexported (getD units k emptyUnit) volume) ⌝ }
 {
+    let mut u = units[k];
     u.exports = u.exports - volume;
-    u
+    units[k] = u;
+    units
 }
 
-// A unit without an import.
-fn unimported(mut u: Unit, volume: u32) -> Unit
-    requires { ⌜ volume ≤ u .imports ⌝ }
-    ensures { λ r. ⌜ r ≡ effects.unimported u volume ⌝ }
+// The units without an import at the unit of an index.
+fn unimported_at(mut units: [Unit; 64], k: usize, volume: u32) -> [Unit; 64]
+    requires { ⌜ (k < 64) × (volume ≤ getD units k emptyUnit .imports) ⌝ }
+    ensures { λ r. ⌜ r ≡ set units k (effects.unimported (getD units k emptyUnit) volume) ⌝ }
 {
+    let mut u = units[k];
     u.imports = u.imports - volume;
-    u
+    units[k] = u;
+    units
 }
 
-// An aquifer without an extraction.
-fn unpumped(mut a: Aquifer, volume: u32) -> Aquifer
-    requires { ⌜ volume ≤ a .extraction ⌝ }
-    ensures { λ r. ⌜ r ≡ effects.unpumped a volume ⌝ }
+// The aquifers without an extraction at the aquifer of an index.
+fn unpumped_at(mut aquifers: [Aquifer; 32], k: usize, volume: u32) -> [Aquifer; 32]
+    requires { ⌜ (k < 32) × (volume ≤ getD aquifers k emptyAquifer .extraction) ⌝ }
+    ensures { λ r. ⌜ r ≡ set aquifers k (effects.unpumped (getD aquifers k emptyAquifer) volume) ⌝ }
 {
+    let mut a = aquifers[k];
     a.extraction = a.extraction - volume;
-    a
+    aquifers[k] = a;
+    aquifers
 }
 
-// The balance without what a withdrawal from a unit added.
-fn lower_withdrawal(mut b: Balance, unit: u8, usage: u8, volume: u32) -> Balance
-    requires { ⌜ cancels.Takable b (UnitWithdrawal unit usage volume) ⌝ }
-    ensures { λ r. ⌜ r ≡ cancels.lowered b (UnitWithdrawal unit usage volume) ⌝ }
-{
-    let k = (unit as usize) - 1;
-    let u = b.units[k];
-    let less = unwithdrawn(u, volume, titles::returned(usage, volume));
-    b.units[k] = less;
-    b
-}
-
-// The balance without what a withdrawal from an aquifer added.
-fn lower_pumping(mut b: Balance, aquifer: u8, volume: u32) -> Balance
-    requires { ⌜ cancels.Takable b (AquiferWithdrawal aquifer volume) ⌝ }
-    ensures { λ r. ⌜ r ≡ cancels.lowered b (AquiferWithdrawal aquifer volume) ⌝ }
-{
-    let k = (aquifer as usize) - 1;
-    let a = b.aquifers[k];
-    let less = unpumped(a, volume);
-    b.aquifers[k] = less;
-    b
-}
-
-// The balance without what a transfer from a unit added to the giver's exports and the receiver's imports.
-fn lower_transfer(mut b: Balance, from: u8, to: u8, volume: u32) -> Balance
-    requires { ⌜ cancels.Takable b (UnitTransfer from to volume) ⌝ }
-    ensures { λ r. ⌜ r ≡ cancels.lowered b (UnitTransfer from to volume) ⌝ }
-{
-    let g = (from as usize) - 1;
-    let giver = b.units[g];
-    let fewer = unexported(giver, volume);
-    b.units[g] = fewer;
-    let k = (to as usize) - 1;
-    let receiver = b.units[k];
-    let less = unimported(receiver, volume);
-    b.units[k] = less;
-    b
-}
-
-// The balance without what a transfer from an aquifer added.
-fn lower_bringing(mut b: Balance, aquifer: u8, unit: u8, volume: u32) -> Balance
-    requires { ⌜ cancels.Takable b (AquiferTransfer aquifer unit volume) ⌝ }
-    ensures { λ r. ⌜ r ≡ cancels.lowered b (AquiferTransfer aquifer unit volume) ⌝ }
-{
-    let w = (aquifer as usize) - 1;
-    let a = b.aquifers[w];
-    let fewer = unpumped(a, volume);
-    b.aquifers[w] = fewer;
-    let k = (unit as usize) - 1;
-    let u = b.units[k];
-    let less = unimported(u, volume);
-    b.units[k] = less;
-    b
-}
-
-// The balance without what a title added.
-pub fn lower(b: Balance, t: Title) -> Balance
-    requires { ⌜ cancels.Takable b t ⌝ }
-    ensures { λ r. ⌜ r ≡ cancels.lowered b t ⌝ }
+// The units without what a title added.
+pub fn lowered_units(units: [Unit; 64], t: Title) -> [Unit; 64]
+    requires { ⌜ cancels.UnitsHeld t units ⌝ }
+    ensures { λ r. ⌜ r ≡ cancels.loweredUnits t units ⌝ }
 {
     match t {
         Title::UnitWithdrawal {
             unit,
             usage,
             volume,
-        } => lower_withdrawal(b, unit, usage, volume),
-        Title::AquiferWithdrawal { aquifer, volume } => lower_pumping(b, aquifer, volume),
-        Title::UnitTransfer { from, to, volume } => lower_transfer(b, from, to, volume),
+        } => unwithdrawn_at(
+            units,
+            (unit as usize) - 1,
+            volume,
+            titles::returned(usage, volume),
+        ),
+        Title::AquiferWithdrawal {
+            aquifer: _,
+            volume: _,
+        } => units,
+        Title::UnitTransfer { from, to, volume } => {
+            let kept = unexported_at(units, (from as usize) - 1, volume);
+            unimported_at(kept, (to as usize) - 1, volume)
+        }
         Title::AquiferTransfer {
-            aquifer,
+            aquifer: _,
             unit,
             volume,
-        } => lower_bringing(b, aquifer, unit, volume),
+        } => unimported_at(units, (unit as usize) - 1, volume),
     }
 }
 
-// The title at an index of the register goes out of force; its place keeps it.
-pub fn leave(mut b: Balance, k: usize, t: Title) -> Balance
-    requires { ⌜ k < 256 ⌝ }
-    ensures { λ r. ⌜ r ≡ effects.left b k t ⌝ }
+// The aquifers without what a title added.
+fn lowered_wells(aquifers: [Aquifer; 32], t: Title) -> [Aquifer; 32]
+    requires { ⌜ cancels.WellsHeld t aquifers ⌝ }
+    ensures { λ r. ⌜ r ≡ cancels.loweredWells t aquifers ⌝ }
 {
+    match t {
+        Title::UnitWithdrawal {
+            unit: _,
+            usage: _,
+            volume: _,
+        } => aquifers,
+        Title::AquiferWithdrawal { aquifer, volume } => unpumped_at(
+            aquifers,
+            (aquifer as usize) - 1,
+            volume,
+        ),
+        Title::UnitTransfer {
+            from: _,
+            to: _,
+            volume: _,
+        } => aquifers,
+        Title::AquiferTransfer {
+            aquifer,
+            unit: _,
+            volume,
+        } => unpumped_at(aquifers, (aquifer as usize) - 1, volume),
+    }
+}
+
+// The balance with the title under a number out of force: every entry lowered by what the title added, and its place kept.
+pub fn take_back(b: Balance, number: u16) -> Balance
+    requires { ⌜ (0 < number) × (number ≤ 256) × cancels.Takable b (cancels.titleOf (viewOf b) number) ⌝ }
+    ensures { λ r. ⌜ r ≡ cancels.withoutTitle b number ⌝ }
+{
+    let units = b.units;
+    let aquifers = b.aquifers;
+    let mut titles = b.titles;
+    let k = (number as usize) - 1;
+    let held = titles[k];
+    let title = held.title;
     let place = Place {
-        title: t,
+        title,
         in_force: false,
     };
-    b.titles[k] = place;
-    b
+    titles[k] = place;
+    Balance {
+        units: lowered_units(units, title),
+        unit_count: b.unit_count,
+        aquifers: lowered_wells(aquifers, title),
+        aquifer_count: b.aquifer_count,
+        titles,
+        given: b.given,
+    }
 }

@@ -3,7 +3,7 @@ ghost use mathlib.Core.Path.{_≡_};
 ghost use Prim.Native.Nat.{_≤_};
 ghost use Rattle.laws.specs.Signed.{above, below};
 ghost use Rattle.river.specs.Flow.{Ready};
-ghost use Rattle.river.specs.Passes.{Splits};
+ghost use Rattle.river.specs.Passes.{Flows, Splits};
 ghost use Rattle.river.specs.Units.{unitsView};
 ghost use Rattle.figures.specs.Figures as figures;
 ghost use Rattle.figures.specs.Figures.{figuresFrom, aquifersView};
@@ -11,8 +11,8 @@ use crate::AquiferFigures;
 use crate::UnitFigures;
 use model::Aquifer;
 use model::Unit;
-use river::committed;
-use river::flow_amounts;
+use river::contribution;
+use river::from_below;
 use river::from_own;
 
 // A unit's figures from what it gathers, what arrives and what is committed.
@@ -32,14 +32,20 @@ fn of_unit(u: Unit, gained: u64, lost: u64, arrived: u64, committed: u64) -> Uni
     }
 }
 
-// The figures of each of n units whose passes over the tree are safe: forward for the flows, backward for the committed volumes, and
-// then each unit's figures.
-pub fn unit_figures(units: [Unit; 64], n: usize) -> [UnitFigures; 64]
+// The figures of each of n units, from what the forward pass has left. Backward over the units: an outlet's committed volume is its
+// commitment, another unit's is its share of the demand below.
+pub fn unit_figures<'a>(
+    units: [Unit; 64],
+    n: usize,
+    gained: &'a [u64; 64],
+    lost: &'a [u64; 64],
+    before: &'a [u64; 64],
+    arrived: &'a [u64; 64],
+) -> [UnitFigures; 64]
     requires { ⌜ Ready (unitsView units n) ⌝ }
+    requires { ⌜ Flows (unitsView units n) (now gained) (now lost) (now before) (now arrived) ⌝ }
     ensures { λ r. ⌜ r ≡ figures.allUnitFigures (unitsView units n) ⌝ }
 {
-    let f = flow_amounts(units, n);
-    let volumes = committed(units, n, f);
     let none = UnitFigures {
         flow: 0,
         committed: 0,
@@ -47,12 +53,21 @@ pub fn unit_figures(units: [Unit; 64], n: usize) -> [UnitFigures; 64]
         availability: 0,
     };
     let mut all = [none; 64];
-    let mut i = 0;
-    while i < n {
+    let mut i = n;
+    while 0 < i {
+        i -= 1;
         let u = units[i];
-        let x = of_unit(u, f.gained[i], f.lost[i], f.arrived[i], volumes[i]);
+        let d = u.downstream as usize;
+        let mut volume = u.commitment as u64;
+        if 0 < d {
+            let k = d - 1;
+            let w = units[k];
+            let below = all[k];
+            let own = contribution(gained[i], lost[i]);
+            volume = from_below(w, below.committed, arrived[k], before[i], own);
+        }
+        let x = of_unit(u, gained[i], lost[i], arrived[i], volume);
         all[i] = x;
-        i += 1;
     }
     all
 }

@@ -1,24 +1,25 @@
 -- The loop over the calls of a book: the lines written so far and those of the calls that are left are all call lines. Assumes nothing.
 use Prim.Native.Nat.{ℕ, zero, suc, _+_, _-_, _*_, _≤_, _<_}
-use mathlib.Core.Path.{_≡_, refl, sym, ap, subst, subst⁻¹, _∙_}
+use mathlib.Core.Path.{_≡_, refl, sym, ap, subst, _∙_}
 use mathlib.Core.List.{List, [], _++_, append-nil, append-assoc}
 use lib.ListN.{length}
 use native.Mathlib.Numerals.{add-one, sub-one}
 use native.Mathlib.Omega.{arith}
 use Rattle.model.specs.declared.Call.{Call}
-use Rattle.model.specs.declared.Answer.the-variants.{Refused}
+use Rattle.model.specs.declared.Answer.{Answer}
+use Rattle.model.specs.declared.Answer.the-variants.{Accepted, Refused}
 use Rattle.model.specs.declared.Balance.{Balance}
 use Rattle.record.specs.declared.CallAt.the-variants.{End, Fails, Asks}
 use Rattle.record.specs.Calls.{callAt, callsFrom, callsOf}
-use Rattle.register.specs.Calls.{callReply}
-use Rattle.register.specs.declared.Reply.{Reply}
-use Rattle.register.proofs.Keeping.{refused-keeps}
+use Rattle.register.specs.Calls.{callReply, callNumber}
+use Rattle.register.proofs.Keeping.{refused-keeps, accepted-number}
 use Rattle.calls.specs.Running.{ran}
 use Rattle.calls.proofs.Running.{rest, turn-asks}
 use Rattle.calls.proofs.Onward.{asks-onward}
+use Rattle.report.specs.Lines.{callRefused}
 use Rattle.text.specs.Text.{Written}
 use Rattle.text.proofs.Writing.{then, widen, restate, still}
-use Rattle.listing.specs.Listing.{callText, callLines}
+use Rattle.listing.specs.Listing.{acceptedText, callText, callLines}
 
 -- The lines of the calls that are left after k calls.
 abbrev pub linesLeft : ℕ → ℕ → List ℕ → ℕ → Balance → List ℕ
@@ -42,6 +43,14 @@ module _ (left k : ℕ) (s : List ℕ) (at : ℕ) (b : Balance) where
 left-none : (k : ℕ) (s : List ℕ) (at : ℕ) (b : Balance) → linesLeft 0 k s at b ≡ []
 unfolding callsFrom callLines
 left-none k s at b = refl
+
+-- The line of a call, by its answer and the number that it tells if it is accepted.
+told : (k : ℕ) (b : Balance) (c : Call) (a : Answer) (n : ℕ) → a ≡ callReply b c .answer → n ≡ callNumber (b .given) c
+    → callText k c a n ≡ callText k c (callReply b c .answer) (callReply b c .number)
+told k b c Accepted n e q =
+    subst (λ (a : Answer). acceptedText k c n ≡ callText k c a (callReply b c .number)) e
+    (ap (acceptedText k c) (q ∙ sym (accepted-number b c (sym e))))
+told k b c (Refused x) n e q = subst (λ (a : Answer). callRefused k x ≡ callText k c a (callReply b c .number)) e refl
 
 -- The loop after k calls: what is written, and that with the lines that are left it is all call lines.
 pub record Printing (s : List ℕ) (from : ℕ) (start : Balance) (old : List ℕ) (p₀ : ℕ) (out : List ℕ) (p : ℕ) (b : Balance) (at k left : ℕ) : Type 0 where
@@ -101,20 +110,16 @@ module _ (s : List ℕ) (from : ℕ) (start : Balance) (old : List ℕ) (p₀ : 
         few = omega (arith, i .onward, o .0, o .1);
       }
 
-  -- The same by the reply that the call had.
-  pub printing-replies : (left : ℕ) (c : Call) (to : ℕ) (new : List ℕ) (q : ℕ) (r : Reply) → r ≡ callReply b c → 0 < left
-      → Printing s from start old p₀ out p b at k left → callAt s at ≡ Asks c to → Written 64 out p (callText (k + 1) c (r .answer) (r .number)) new q
-      → Printing s from start old p₀ new q (r .balance) to (k + 1) (left - 1)
-  printing-replies left c to new q r a h i e =
-      subst⁻¹
-      (λ (x : Reply). Written 64 out p (callText (k + 1) c (x .answer) (x .number)) new q → Printing s from start old p₀ new q (x .balance) to (k + 1) (left - 1))
-      a (printing-asks left c to new q h i e)
+  -- The same by the answer and the number that were printed.
+  pub printing-answered : (left : ℕ) (c : Call) (to : ℕ) (new : List ℕ) (q : ℕ) (a : Answer) (n : ℕ) → a ≡ callReply b c .answer → n ≡ callNumber (b .given) c
+      → 0 < left → Printing s from start old p₀ out p b at k left → callAt s at ≡ Asks c to → Written 64 out p (callText (k + 1) c a n) new q
+      → Printing s from start old p₀ new q (callReply b c .balance) to (k + 1) (left - 1)
+  printing-answered left c to new q a n f g h i e w = printing-asks left c to new q h i e (restate w (told (k + 1) b c a n f g))
 
   -- A refused call leaves the balance as it is.
-  pub printing-refused : (left : ℕ) (c : Call) (to : ℕ) (new : List ℕ) (q : ℕ) (r : Reply) (n : ℕ) → r ≡ callReply b c → r .answer ≡ Refused n → 0 < left
-      → Printing s from start old p₀ out p b at k left → callAt s at ≡ Asks c to → Written 64 out p (callText (k + 1) c (r .answer) (r .number)) new q
-      → Printing s from start old p₀ new q b to (k + 1) (left - 1)
-  printing-refused left c to new q r n a f h i e w =
-      subst (λ (x : Balance). Printing s from start old p₀ new q x to (k + 1) (left - 1))
-      (ap (λ (x : Reply). x .balance) a ∙ refused-keeps b c n (ap (λ (x : Reply). x .answer) (sym a) ∙ f) .0)
-      (printing-replies left c to new q r a h i e w)
+  pub printing-refused : (left : ℕ) (c : Call) (to : ℕ) (new : List ℕ) (q : ℕ) (a : Answer) (n m : ℕ) → a ≡ callReply b c .answer → n ≡ callNumber (b .given) c
+      → a ≡ Refused m → 0 < left → Printing s from start old p₀ out p b at k left → callAt s at ≡ Asks c to
+      → Written 64 out p (callText (k + 1) c a n) new q → Printing s from start old p₀ new q b to (k + 1) (left - 1)
+  printing-refused left c to new q a n m f g r h i e w =
+      subst (λ (x : Balance). Printing s from start old p₀ new q x to (k + 1) (left - 1)) (refused-keeps b c m (sym f ∙ r) .0)
+      (printing-answered left c to new q a n f g h i e w)

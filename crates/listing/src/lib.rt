@@ -3,7 +3,9 @@ ghost use mathlib.Core.Path.{_≡_};
 ghost use mathlib.Core.List.{_++_};
 ghost use Prim.Native.Nat.{_+_, _≤_};
 ghost use lib.ListN.{length, getD};
+ghost use mathlib.Core.Bool.{true};
 ghost use Rattle.model.specs.View.{viewOf};
+ghost use Rattle.basin.specs.Sound.{sound};
 ghost use Rattle.figures.specs.Figures.{noUnitFigures, noAquiferFigures};
 ghost use Rattle.text.specs.Text.{Written};
 ghost use Rattle.listing.specs.Listing as text;
@@ -131,13 +133,12 @@ struct Lines {
     ran: Ran,
 }
 
-// Runs the calls of a book and puts a line for each into the buffer. One test for 0 serves them all, as in `calls::run`.
+// Runs the calls of a book over a sound balance and puts a line for each into the buffer.
 fn call_lines(s: &[u8], from: usize, balance: Balance, out: &mut [u8; ROOM]) -> Lines
-    requires { ⌜ length (now s) ≤ 65536 ⌝ }
+    requires { ⌜ (length (now s) ≤ 65536) × (sound (viewOf balance) ≡ true) ⌝ }
     ensures { λ r. ⌜ printing.Printed (now (s .entry)) from balance (now (out .entry)) (now (out .exit)) r ⌝ }
 {
     let mut p = report::no_line(out, 0);
-    let sound = basin::sound(balance);
     let mut b = balance;
     let mut at = from;
     let mut k = 0;
@@ -158,14 +159,14 @@ fn call_lines(s: &[u8], from: usize, balance: Balance, out: &mut [u8; ROOM]) -> 
                 };
             }
             CallAt::Asks { call, to } => {
-                let reply = register::ask_tested(b, sound, call);
-                let answer = reply.answer;
+                let answer = register::decide(b, true, call);
+                let number = register::number_of(b.given, call);
                 k += 1;
-                p = call_line(out, p, k, call, answer, reply.number);
+                p = call_line(out, p, k, call, answer, number);
                 at = to;
                 match answer {
                     Answer::Accepted => {
-                        b = reply.balance;
+                        b = register::perform(b, call);
                     }
                     Answer::Refused(_) => {}
                 }
@@ -201,9 +202,9 @@ fn ran_lines(out: &mut [u8; ROOM], at: usize, ran: Ran) -> usize
     table(out, p, balance)
 }
 
-// What is printed for an accepted description: the call lines, then what follows them.
+// What is printed for a sound balance: the call lines, then what follows them.
 fn run_lines(s: &[u8], from: usize, balance: Balance, out: &mut [u8; ROOM]) -> usize
-    requires { ⌜ length (now s) ≤ 65536 ⌝ }
+    requires { ⌜ (length (now s) ≤ 65536) × (sound (viewOf balance) ≡ true) ⌝ }
     ensures { λ r. ⌜ Written 1064960 (now (out .entry)) 0 (text.runText (now (s .entry)) from balance) (now (out .exit)) r ⌝ }
 {
     let lines = call_lines(s, from, balance, out);

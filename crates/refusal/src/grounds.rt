@@ -2,16 +2,16 @@
 ghost use mathlib.Core.Path.{_≡_};
 ghost use mathlib.Core.Bool.{_||_};
 ghost use Prim.Native.Nat.{_≤_, _<_, _+_};
-ghost use Rattle.model.specs.View.{viewOf};
+ghost use mathlib.Core.List.{[]};
 ghost use Rattle.model.specs.declared.Title.the-variants.{UnitWithdrawal, AquiferWithdrawal, UnitTransfer, AquiferTransfer};
 ghost use Rattle.river.specs.Flow.{Ready};
 ghost use Rattle.river.specs.Units.{unitsView};
 ghost use Rattle.refusal.specs.Grant as grants;
 ghost use Rattle.refusal.specs.Steps as steps;
-ghost use Rattle.refusal.specs.Steps.{Bounded};
+ghost use Rattle.refusal.specs.Steps.{entriesView};
 use basin::exists;
 use basin::is_volume;
-use model::Balance;
+use model::Aquifer;
 use model::Title;
 use model::Unit;
 
@@ -49,21 +49,28 @@ fn volume_number(given: usize, volume: u32, over: bool) -> u8
 }
 
 // GU: 12 to 16.
-fn withdrawal_number(b: Balance, unit: u8, usage: u8, volume: u32) -> u8
-    requires { ⌜ Bounded b ⌝ }
-    ensures { λ r. ⌜ r ≡ steps.earlyNumber (viewOf b) (UnitWithdrawal unit usage volume) ⌝ }
+fn withdrawal_number(
+    units: [Unit; 64],
+    n: usize,
+    given: usize,
+    unit: u8,
+    usage: u8,
+    volume: u32,
+) -> u8
+    requires { ⌜ n ≤ 64 ⌝ }
+    ensures { λ r. ⌜ r ≡ steps.earlyNumber (entriesView units n [] 0 given) (UnitWithdrawal unit usage volume) ⌝ }
 {
-    if exists(b.unit_count, unit) {
+    if exists(n, unit) {
         if exists(7, usage) {
             let k = (unit as usize) - 1;
-            let u = b.units[k];
+            let u = units[k];
             let over = either_past(
                 u.extraction,
                 volume,
                 u.returns,
                 titles::returned(usage, volume),
             );
-            return volume_number(b.given, volume, over);
+            return volume_number(given, volume, over);
         }
         return 13;
     }
@@ -71,32 +78,41 @@ fn withdrawal_number(b: Balance, unit: u8, usage: u8, volume: u32) -> u8
 }
 
 // GA: 12, 14 to 16.
-fn pumping_number(b: Balance, aquifer: u8, volume: u32) -> u8
-    requires { ⌜ Bounded b ⌝ }
-    ensures { λ r. ⌜ r ≡ steps.earlyNumber (viewOf b) (AquiferWithdrawal aquifer volume) ⌝ }
+fn pumping_number(aquifers: [Aquifer; 32], m: usize, given: usize, aquifer: u8, volume: u32) -> u8
+    requires { ⌜ m ≤ 32 ⌝ }
+    ensures { λ r. ⌜ r ≡ steps.earlyNumber (entriesView [] 0 aquifers m given) (AquiferWithdrawal aquifer volume) ⌝ }
 {
-    if exists(b.aquifer_count, aquifer) {
+    if exists(m, aquifer) {
         let k = (aquifer as usize) - 1;
-        let a = b.aquifers[k];
+        let a = aquifers[k];
         let over = past(a.extraction, volume);
-        return volume_number(b.given, volume, over);
+        return volume_number(given, volume, over);
     }
     12
 }
 
 // TA: 12, 14 to 16.
-fn bringing_number(b: Balance, aquifer: u8, unit: u8, volume: u32) -> u8
-    requires { ⌜ Bounded b ⌝ }
-    ensures { λ r. ⌜ r ≡ steps.earlyNumber (viewOf b) (AquiferTransfer aquifer unit volume) ⌝ }
+fn bringing_number(
+    units: [Unit; 64],
+    n: usize,
+    aquifers: [Aquifer; 32],
+    m: usize,
+    given: usize,
+    aquifer: u8,
+    unit: u8,
+    volume: u32,
+) -> u8
+    requires { ⌜ (n ≤ 64) × (m ≤ 32) ⌝ }
+    ensures { λ r. ⌜ r ≡ steps.earlyNumber (entriesView units n aquifers m given) (AquiferTransfer aquifer unit volume) ⌝ }
 {
-    if exists(b.aquifer_count, aquifer) {
-        if exists(b.unit_count, unit) {
+    if exists(m, aquifer) {
+        if exists(n, unit) {
             let w = (aquifer as usize) - 1;
-            let a = b.aquifers[w];
+            let a = aquifers[w];
             let k = (unit as usize) - 1;
-            let u = b.units[k];
+            let u = units[k];
             let over = either_past(a.extraction, volume, u.imports, volume);
-            return volume_number(b.given, volume, over);
+            return volume_number(given, volume, over);
         }
     }
     12
@@ -116,44 +132,63 @@ fn is_downstream(units: [Unit; 64], n: usize, from: u8, to: u8) -> bool
 }
 
 // TU: 12, 18, 14 to 16.
-fn transfer_number(b: Balance, from: u8, to: u8, volume: u32) -> u8
-    requires { ⌜ Ready (viewOf b) ⌝ }
-    ensures { λ r. ⌜ r ≡ steps.earlyNumber (viewOf b) (UnitTransfer from to volume) ⌝ }
+fn transfer_number(units: [Unit; 64], n: usize, given: usize, from: u8, to: u8, volume: u32) -> u8
+    requires { ⌜ Ready (unitsView units n) ⌝ }
+    ensures { λ r. ⌜ r ≡ steps.earlyNumber (entriesView units n [] 0 given) (UnitTransfer from to volume) ⌝ }
 {
-    if exists(b.unit_count, from) {
-        if exists(b.unit_count, to) {
-            let units = b.units;
-            if is_downstream(units, b.unit_count, from, to) {
+    if exists(n, from) {
+        if exists(n, to) {
+            if is_downstream(units, n, from, to) {
                 return 18;
             }
             let g = (from as usize) - 1;
-            let giver = b.units[g];
+            let giver = units[g];
             let k = (to as usize) - 1;
-            let receiver = b.units[k];
+            let receiver = units[k];
             let over = either_past(giver.exports, volume, receiver.imports, volume);
-            return volume_number(b.given, volume, over);
+            return volume_number(given, volume, over);
         }
     }
     12
 }
 
 // The number under which a grant is refused before its water is looked at, of each kind of title.
-pub fn early(b: Balance, t: Title) -> u8
-    requires { ⌜ Ready (viewOf b) × Bounded b ⌝ }
-    ensures { λ r. ⌜ r ≡ steps.earlyNumber (viewOf b) t ⌝ }
+pub fn early(
+    units: [Unit; 64],
+    n: usize,
+    aquifers: [Aquifer; 32],
+    m: usize,
+    given: usize,
+    t: Title,
+) -> u8
+    requires { ⌜ Ready (unitsView units n) × (m ≤ 32) ⌝ }
+    ensures { λ r. ⌜ r ≡ steps.earlyNumber (entriesView units n aquifers m given) t ⌝ }
 {
     match t {
         Title::UnitWithdrawal {
             unit,
             usage,
             volume,
-        } => withdrawal_number(b, unit, usage, volume),
-        Title::AquiferWithdrawal { aquifer, volume } => pumping_number(b, aquifer, volume),
-        Title::UnitTransfer { from, to, volume } => transfer_number(b, from, to, volume),
+        } => withdrawal_number(units, n, given, unit, usage, volume),
+        Title::AquiferWithdrawal { aquifer, volume } => pumping_number(
+            aquifers,
+            m,
+            given,
+            aquifer,
+            volume,
+        ),
+        Title::UnitTransfer { from, to, volume } => transfer_number(
+            units,
+            n,
+            given,
+            from,
+            to,
+            volume,
+        ),
         Title::AquiferTransfer {
             aquifer,
             unit,
             volume,
-        } => bringing_number(b, aquifer, unit, volume),
+        } => bringing_number(units, n, aquifers, m, given, aquifer, unit, volume),
     }
 }

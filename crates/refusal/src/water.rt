@@ -4,16 +4,15 @@ ghost use mathlib.Core.Bool.{not};
 ghost use lib.Signed.{nonNeg};
 ghost use Prim.Native.Nat.{_≤_, _<_};
 ghost use Rattle.laws.specs.Signed.{above, below};
-ghost use Rattle.model.specs.View.{viewOf};
 ghost use Rattle.river.specs.Flow.{Ready};
 ghost use Rattle.river.specs.Units.{unitsView};
 ghost use Rattle.river.specs.Wells.{wellAvailability};
-ghost use Rattle.figures.specs.Figures.{WellsReady};
+ghost use Rattle.figures.specs.Figures.{WellsReady, aquifersView};
 ghost use Rattle.refusal.specs.Grant as grants;
 ghost use Rattle.effect.specs.Granted.{Named};
 ghost use Rattle.refusal.specs.Steps as steps;
+ghost use Rattle.refusal.specs.Steps.{entriesView};
 use model::Aquifer;
-use model::Balance;
 use model::Title;
 use model::Unit;
 
@@ -33,13 +32,17 @@ fn dry(units: [Unit; 64], n: usize, j: usize) -> bool
     requires { ⌜ Ready (unitsView units n) × (j < n) ⌝ }
     ensures { λ r. ⌜ r ≡ grants.dry (unitsView units n) j ⌝ }
 {
-    let f = river::flow_amounts(units, n);
-    let volumes = river::committed(units, n, f);
+    let mut gained = [0u64; 64];
+    let mut lost = [0u64; 64];
+    let mut before = [0u64; 64];
+    let mut arrived = [0u64; 64];
+    river::flow_amounts(units, n, &mut gained, &mut lost, &mut before, &mut arrived);
+    let volumes = river::committed(units, n, &gained, &lost, &before, &arrived);
     let ends = reach::outlets(units, n);
     let outlet = ends[j];
     let mut i = 0;
     while i < n {
-        if wanting(ends[i], outlet, f.gained[i], f.lost[i], volumes[i]) {
+        if wanting(ends[i], outlet, gained[i], lost[i], volumes[i]) {
             return true;
         }
         i += 1;
@@ -108,17 +111,15 @@ fn giving_aquifer(t: Title) -> u8
 }
 
 // No water for a title that is in: in the outlet basin of the unit that gives, or in the aquifer that gives.
-pub fn no_water(b: Balance, t: Title) -> bool
-    requires { ⌜ Ready (viewOf b) × WellsReady (viewOf b) × Named (viewOf b) t ⌝ }
-    ensures { λ r. ⌜ r ≡ grants.noWater (viewOf b) t ⌝ }
+pub fn no_water(units: [Unit; 64], n: usize, aquifers: [Aquifer; 32], m: usize, t: Title) -> bool
+    requires { ⌜ Ready (unitsView units n) × WellsReady (aquifersView aquifers m) × Named (entriesView units n aquifers m 0) t ⌝ }
+    ensures { λ r. ⌜ r ≡ grants.noWater (entriesView units n aquifers m 0) t ⌝ }
 {
     let u = giving_unit(t) as usize;
     if 0 < u {
-        let units = b.units;
-        let n = b.unit_count;
         return dry(units, n, u - 1);
     }
     let k = (giving_aquifer(t) as usize) - 1;
-    let a = b.aquifers[k];
+    let a = aquifers[k];
     drained(a)
 }

@@ -15,11 +15,11 @@ use Rattle.effect.specs.Cancelled.{withoutTitle}
 use Rattle.refusal.specs.Grant.{grantRefusal}
 use Rattle.register.specs.Reply.{afterTest, replied}
 use Rattle.register.specs.Cancel.{cancelRefusal}
-use Rattle.register.specs.Calls.{callReply}
+use Rattle.register.specs.Calls.{callReply, callNumber}
 use Rattle.register.specs.declared.Reply.{Reply}
 use Rattle.register.proofs.Replies.{reply-unsound}
-use Rattle.register.proofs.Staying.{accepted-sound, not-refused}
-use Rattle.register.proofs.Leaving.{reply-fault, cancel-sound}
+use Rattle.register.proofs.Staying.{accepted-sound, not-refused, Given, grant-given, given-reply}
+use Rattle.register.proofs.Leaving.{reply-fault, cancel-sound, Released, cancel-released, released-reply}
 
 -- 0.
 pub call-unsound : (b : Balance) (c : Call) → sound (viewOf b) ≡ false → replied (number 0) b b 0 ≡ callReply b c
@@ -52,3 +52,13 @@ outcome-keeps (number n) old new m k e = (refl, refl)
 pub refused-keeps : (b : Balance) (c : Call) (k : ℕ) → callReply b c .answer ≡ Refused k → (callReply b c .balance ≡ b) × (callReply b c .number ≡ 0)
 refused-keeps b (Grant t) k e = outcome-keeps (afterTest b (grantRefusal (viewOf b) t)) b (posted b t) (b .given + 1) k e
 refused-keeps b (Cancel n) k e = outcome-keeps (afterTest b (cancelRefusal (viewOf b) n)) b (withoutTitle b n) n k e
+
+-- An accepted call tells its number.
+pub accepted-number : (b : Balance) (c : Call) → callReply b c .answer ≡ Accepted → callReply b c .number ≡ callNumber (b .given) c
+accepted-number b (Grant t) e = ap (λ (r : Reply). r .number) (sym (given-reply b t (grant-given b t e)))
+accepted-number b (Cancel n) e = ap (λ (r : Reply). r .number) (sym (released-reply b n (cancel-released b n e)))
+
+-- An accepted call had a sound balance.
+pub accepted-from-sound : (b : Balance) (c : Call) → callReply b c .answer ≡ Accepted → sound (viewOf b) ≡ true
+accepted-from-sound b (Grant t) e = grant-given b t e .sound-before
+accepted-from-sound b (Cancel n) e = cancel-released b n e .sound-before

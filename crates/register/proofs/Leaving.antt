@@ -118,14 +118,30 @@ module _ (b : Balance) (n : ℕ) where
       → replied none b (withoutTitle b n) n ≡ cancelReply b n
   reply-cancelled e q d = by-refusal none (outcome true true e q ∙ ap (λ (x : Bool). refuse 20 (not x) none) d)
 
--- CA: an accepted cancellation never hands out a balance that falls under 0.
-pub cancel-sound : (b : Balance) (n : ℕ) → Sized b → cancelReply b n .answer ≡ Accepted → sound (viewOf (cancelReply b n .balance)) ≡ true
-cancel-sound b n z a =
+-- What holds where a cancellation is accepted.
+pub record Released (b : Balance) (n : ℕ) : Type 0 where
+  pub sound-before : sound (viewOf b) ≡ true
+  pub stands : inForce (viewOf b) n ≡ true
+  pub flows : flowing (cancelled (viewOf b) n) ≡ true
+
+pub cancel-released : (b : Balance) (n : ℕ) → cancelReply b n .answer ≡ Accepted → Released b n
+cancel-released b n a =
     by-bool (sound (viewOf b))
     (λ e. by-bool (inForce (viewOf b) n)
     (λ q. by-bool (flowing (cancelled (viewOf b) n))
-    (λ d. subst⁻¹ (λ (x : Balance). sound (viewOf x) ≡ true) (ap (λ (r : Reply). r .balance) (sym (reply-cancelled b n e q d)))
-    (subst⁻¹ (λ (w : View). sound w ≡ true) (without-view b n z (soundness (viewOf b) e) (in-force-of (viewOf b) n q)) (cancelled-sound (viewOf b) n e q d)))
+    (λ d. record { sound-before = e; stands = q; flows = d })
     (λ d. absurd (not-refused 20 (cancelReply b n) (ap (λ (r : Reply). r .answer) (sym (reply-needed b n e q d))) a)))
     (λ q. absurd (not-refused 19 (cancelReply b n) (ap (λ (r : Reply). r .answer) (sym (reply-not-in-force b n e q))) a)))
     (λ e. absurd (not-refused 0 (cancelReply b n) (ap (λ (r : Reply). r .answer) (sym (reply-fault b n e))) a))
+
+-- The reply to an accepted cancellation.
+pub released-reply : (b : Balance) (n : ℕ) → Released b n → replied none b (withoutTitle b n) n ≡ cancelReply b n
+released-reply b n f = reply-cancelled b n (f .sound-before) (f .stands) (f .flows)
+
+-- CA: an accepted cancellation never hands out a balance that falls under 0.
+pub cancel-sound : (b : Balance) (n : ℕ) → Sized b → cancelReply b n .answer ≡ Accepted → sound (viewOf (cancelReply b n .balance)) ≡ true
+cancel-sound b n z a =
+    let f = cancel-released b n a in
+    subst⁻¹ (λ (x : Balance). sound (viewOf x) ≡ true) (ap (λ (r : Reply). r .balance) (sym (released-reply b n f)))
+    (subst⁻¹ (λ (w : View). sound w ≡ true) (without-view b n z (soundness (viewOf b) (f .sound-before)) (in-force-of (viewOf b) n (f .stands)))
+    (cancelled-sound (viewOf b) n (f .sound-before) (f .stands) (f .flows)))

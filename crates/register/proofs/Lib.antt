@@ -3,3 +3,4 @@ pub mod Staying
 pub mod Cancelling
 pub mod Leaving
 pub mod Keeping
+pub mod Trial

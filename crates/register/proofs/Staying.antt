@@ -26,9 +26,10 @@ use Rattle.basin.proofs.Soundness.{PlaceSound, Soundness, soundness, sound-of, 
 use Rattle.reach.specs.Reach.{outlet, sameBasin}
 use Rattle.reach.proofs.Ways.{outlet-same}
 use Rattle.reach.proofs.Local.{flow-outside, flow-raised}
-use Rattle.effect.specs.Granted.{granted, raisedUnit, Sized}
+use Rattle.effect.specs.Granted.{posted, granted, raisedUnit, Sized}
 use Rattle.refusal.specs.Grant.{wanting, dry, noWater}
-use Rattle.register.specs.Reply.{grantReply}
+use Rattle.model.specs.Answers.{none}
+use Rattle.register.specs.Reply.{replied, grantReply}
 use Rattle.refusal.specs.Steps.{earlyNumber}
 use Rattle.register.specs.declared.Reply.{Reply}
 use Rattle.effect.proofs.Raising.{elsewhere}
@@ -148,15 +149,31 @@ is-accepted (Refused n) = false
 pub not-refused : (n : ℕ) (r : Reply) → r .answer ≡ Refused n → r .answer ≡ Accepted → ⊥
 not-refused n r e a = true≢false (sym (ap is-accepted a) ∙ ap is-accepted e)
 
--- GU, GA, TU and TA: an accepted call never hands out a balance that falls under 0.
-pub accepted-sound : (b : Balance) (t : Title) → Sized b → grantReply b t .answer ≡ Accepted → sound (viewOf (grantReply b t .balance)) ≡ true
-accepted-sound b t z a =
+-- What holds where a grant is accepted.
+pub record Given (b : Balance) (t : Title) : Type 0 where
+  pub sound-before : sound (viewOf b) ≡ true
+  pub none-early : earlyNumber (viewOf b) t ≡ 0
+  pub water : noWater (granted (viewOf b) t) t ≡ false
+
+pub grant-given : (b : Balance) (t : Title) → grantReply b t .answer ≡ Accepted → Given b t
+grant-given b t a =
     by-bool (sound (viewOf b))
     (λ e. by-eq (earlyNumber (viewOf b) t) 0
     (λ q. by-bool (noWater (granted (viewOf b) t) t)
     (λ d. absurd (not-refused 17 (grantReply b t) (ap (λ (r : Reply). r .answer) (sym (reply-dry b t e q d))) a))
-    (λ d. subst⁻¹ (λ (x : Balance). sound (viewOf x) ≡ true) (ap (λ (r : Reply). r .balance) (sym (reply-given b t e q d)))
-    (subst⁻¹ (λ (w : View). sound w ≡ true) (posted-view b t z (grantable-of b t e q)) (granted-sound (viewOf b) t e q d))))
+    (λ d. record { sound-before = e; none-early = q; water = d }))
     (λ q. absurd (not-refused _ (grantReply b t)
     (ap (λ (r : Reply). r .answer) (sym (reply-early b t (earlyNumber (viewOf b) t) e refl (omega arith)))) a)))
     (λ e. absurd (not-refused 0 (grantReply b t) (ap (λ (r : Reply). r .answer) (sym (reply-unsound b t e))) a))
+
+-- The reply to an accepted grant.
+pub given-reply : (b : Balance) (t : Title) → Given b t → replied none b (posted b t) (b .given + 1) ≡ grantReply b t
+given-reply b t g = reply-given b t (g .sound-before) (g .none-early) (g .water)
+
+-- GU, GA, TU and TA: an accepted call never hands out a balance that falls under 0.
+pub accepted-sound : (b : Balance) (t : Title) → Sized b → grantReply b t .answer ≡ Accepted → sound (viewOf (grantReply b t .balance)) ≡ true
+accepted-sound b t z a =
+    let g = grant-given b t a in
+    subst⁻¹ (λ (x : Balance). sound (viewOf x) ≡ true) (ap (λ (r : Reply). r .balance) (sym (given-reply b t g)))
+    (subst⁻¹ (λ (w : View). sound w ≡ true) (posted-view b t z (grantable-of b t (g .sound-before) (g .none-early)))
+    (granted-sound (viewOf b) t (g .sound-before) (g .none-early) (g .water)))

@@ -1,4 +1,5 @@
 -- The five calls as one, and lists of calls (document 01, "What each operation refuses"; demand 3). Assumes nothing.
+use Prim.Native.Nat.{ℕ, _+_}
 use mathlib.Core.List.{List, [], _∷_}
 use Rattle.model.specs.declared.Call.{Call}
 use Rattle.model.specs.declared.Call.the-variants.{Grant, Cancel}
@@ -19,6 +20,11 @@ callRefusal v (Cancel n) = cancelRefusal v n
 abbrev pub callReply : Balance → Call → Reply
 callReply b (Grant t) = grantReply b t
 callReply b (Cancel n) = cancelReply b n
+
+-- The number that an accepted call tells, where so many numbers were given: the next one for a grant, the cancelled one for a cancellation.
+abbrev pub callNumber : ℕ → Call → ℕ
+callNumber given (Grant t) = given + 1
+callNumber given (Cancel n) = n
 
 -- The balance after a list of calls: the first call gets the balance handed in, each later one the balance that the one before returned.
 unfoldable pub after : Balance → List Call → Balance

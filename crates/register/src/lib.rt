@@ -1,16 +1,17 @@
 // The register: titles granted, transferred and cancelled, each call from a balance to a reply.
 mod asked;
-mod grant;
+mod decision;
 mod outcome;
-mod taking_back;
 
 pub use asked::ask;
-pub use asked::ask_tested;
-pub use grant::bring;
-pub use grant::pump;
-pub use grant::transfer;
-pub use grant::withdraw;
-pub use taking_back::cancel;
+pub use asked::bring;
+pub use asked::cancel;
+pub use asked::pump;
+pub use asked::transfer;
+pub use asked::withdraw;
+pub use decision::decide;
+pub use outcome::number_of;
+pub use outcome::perform;
 
 // The reply of a call: the answer, the title's number (0 if refused) and the balance.
 pub struct Reply {

@@ -1,13 +1,13 @@
 -- The replies of the passes over the tree that work out the figures. Assumes nothing.
 use Prim.Native.Nat.{ℕ, pred, _+_, _≤_, _<_}
 use mathlib.Core.Path.{_≡_}
-use mathlib.Core.Bool.{cond}
+use mathlib.Core.Bool.{true, false, cond}
 use mathlib.Core.List.{List}
 use lib.Dec.{eqb}
-use lib.ListN.{length, getD}
+use lib.ListN.{length, getD, replicate}
 use Rattle.model.specs.declared.Unit.{Unit}
 use Rattle.model.specs.View.{View}
-use Rattle.river.specs.Flow.{downstream}
+use Rattle.river.specs.Flow.{downstream, Gathered}
 use Rattle.river.specs.Reserve.{inflow, demand, share, runningTotal, committed}
 
 -- The running total before a unit at its downstream unit; 0 for an outlet.
@@ -20,6 +20,20 @@ pub record RunningTotals (v : View) (before arrived : List ℕ) : Type 0 where
   pub long-arrived : length arrived ≡ 64
   pub each-before : (j : ℕ) → j < v .units → getD before j 0 ≡ runningBefore v j
   pub each-arrived : (w : ℕ) → w < v .units → getD arrived w 0 ≡ runningTotal v w w
+
+-- The four arrays that the forward pass fills, before it: 0 in every place.
+pub record Clear (g l b a : List ℕ) : Type 0 where
+  pub gained : g ≡ replicate 64 0
+  pub lost : l ≡ replicate 64 0
+  pub before : b ≡ replicate 64 0
+  pub arrived : a ≡ replicate 64 0
+
+-- The reply of the forward pass: all that is gained and lost at each unit and above it, the running total before it at its downstream
+-- unit, and the total of the units that drain straight into it.
+pub record Flows (v : View) (g l b a : List ℕ) : Type 0 where
+  pub gained : Gathered v false g
+  pub lost : Gathered v true l
+  pub totals : RunningTotals v b a
 
 -- The committed volume of each unit, and 0 in the unused places.
 pub record CommittedVolumes (v : View) (r : List ℕ) : Type 0 where

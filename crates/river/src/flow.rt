@@ -1,11 +1,9 @@
 // Flow: what each unit gains and loses, gathered down the tree.
 ghost use mathlib.Core.Path.{_≡_};
-ghost use mathlib.Core.Bool.{true, false};
 ghost use Rattle.river.specs.Flow as river;
-ghost use Rattle.river.specs.Flow.{Ready, Gathered};
-ghost use Rattle.river.specs.Passes.{RunningTotals};
+ghost use Rattle.river.specs.Flow.{Ready};
+ghost use Rattle.river.specs.Passes.{Clear, Flows};
 ghost use Rattle.river.specs.Units.{unitsView};
-use crate::Amounts;
 use crate::reserve::contribution;
 use model::Unit;
 
@@ -29,16 +27,18 @@ pub fn loss(u: Unit) -> u64
 
 // Forward over the units: all that is gained and lost at each unit and above it goes on to its downstream unit, and its contribution is
 // added to what has arrived there.
-pub fn flow_amounts(units: [Unit; 64], n: usize) -> Amounts
+pub fn flow_amounts(
+    units: [Unit; 64],
+    n: usize,
+    gained: &mut [u64; 64],
+    lost: &mut [u64; 64],
+    before: &mut [u64; 64],
+    arrived: &mut [u64; 64],
+)
     requires { ⌜ Ready (unitsView units n) ⌝ }
-    ensures { λ r. ⌜ Gathered (unitsView units n) false (r .gained) ⌝ }
-    ensures { λ r. ⌜ Gathered (unitsView units n) true (r .lost) ⌝ }
-    ensures { λ r. ⌜ RunningTotals (unitsView units n) (r .before) (r .arrived) ⌝ }
+    requires { ⌜ Clear (now gained) (now lost) (now before) (now arrived) ⌝ }
+    ensures { λ _. ⌜ Flows (unitsView units n) (now (gained .exit)) (now (lost .exit)) (now (before .exit)) (now (arrived .exit)) ⌝ }
 {
-    let mut gained = [0u64; 64];
-    let mut lost = [0u64; 64];
-    let mut before = [0u64; 64];
-    let mut arrived = [0u64; 64];
     let mut i = 0;
     while i < n {
         let u = units[i];
@@ -56,11 +56,5 @@ pub fn flow_amounts(units: [Unit; 64], n: usize) -> Amounts
             arrived[k] = found + contribution(more, less);
         }
         i += 1;
-    }
-    Amounts {
-        gained,
-        lost,
-        before,
-        arrived,
     }
 }

@@ -1,13 +1,12 @@
 // Committed volume and own reserve: a demand split over running totals.
 ghost use mathlib.Core.Path.{_≡_};
-ghost use Prim.Native.Nat.{_+_, _-_, _≤_, _<_};
-ghost use Rattle.river.specs.Flow.{Ready, Gathered};
+ghost use Prim.Native.Nat.{_+_, _-_, _*_, _/_, _≤_, _<_};
+ghost use Rattle.river.specs.Flow.{Ready};
 ghost use Rattle.river.specs.Reserve as reserves;
-ghost use Rattle.river.specs.Passes.{RunningTotals, CommittedVolumes, Splits, fromBelow, fromOwn};
+ghost use Rattle.river.specs.Passes.{Flows, CommittedVolumes, Splits, fromBelow, fromOwn};
 ghost use Rattle.river.specs.Units.{unitsView};
-ghost use mathlib.Core.Bool.{true, false, cond};
+ghost use mathlib.Core.Bool.{cond};
 ghost use lib.Dec.{eqb};
-use crate::Amounts;
 use model::Unit;
 
 // What a unit contributes to its downstream unit: its flow, or 0 where that is negative.
@@ -35,12 +34,23 @@ fn demand(u: Unit, committed: u64) -> u64
     (u.extraction as u64) + (u.exports as u64) + committed
 }
 
+// The floor of what so much contributed gets of a demand. Where nothing is contributed the division is spared.
+fn part(demand: u64, contributed: u64, total: u64) -> u64
+    requires { ⌜ (0 < total) × (demand ≤ 2610000000) × (contributed ≤ 2610000000) ⌝ }
+    ensures { λ r. ⌜ r ≡ demand * contributed / total ⌝ }
+{
+    if contributed == 0 {
+        return 0;
+    }
+    demand * contributed / total
+}
+
 // What a contributor gets of a demand: the floor with it less the floor without it.
 fn share(demand: u64, total: u64, without: u64, with: u64) -> u64
     requires { ⌜ (0 < total) × (demand ≤ 2610000000) × (without ≤ with) × (with ≤ 2610000000) ⌝ }
     ensures { λ r. ⌜ r ≡ reserves.share demand total without with ⌝ }
 {
-    demand * with / total - demand * without / total
+    demand * with / total - part(demand, without, total)
 }
 
 // What a unit above gets of a demand.
@@ -62,11 +72,11 @@ fn share_own(demand: u64, total: u64, before: u64) -> u64
     if total == 0 {
         return demand;
     }
-    demand - demand * before / total
+    demand - part(demand, before, total)
 }
 
 // What a unit above gets of the demand of unit w, which has so much committed and to which so much has arrived.
-fn from_below(w: Unit, committed: u64, arrived: u64, before: u64, own: u64) -> u64
+pub fn from_below(w: Unit, committed: u64, arrived: u64, before: u64, own: u64) -> u64
     requires { ⌜ Splits w committed arrived ⌝ }
     requires { ⌜ before + own ≤ arrived + reserves.inflow w ⌝ }
     ensures { λ r. ⌜ r ≡ fromBelow w committed arrived before own ⌝ }
@@ -83,11 +93,16 @@ pub fn from_own(u: Unit, committed: u64, arrived: u64) -> u64
 }
 
 // Backward over the units: an outlet's committed volume is its commitment, another unit's is its share of the demand below.
-pub fn committed(units: [Unit; 64], n: usize, f: Amounts) -> [u64; 64]
+pub fn committed<'a>(
+    units: [Unit; 64],
+    n: usize,
+    gained: &'a [u64; 64],
+    lost: &'a [u64; 64],
+    before: &'a [u64; 64],
+    arrived: &'a [u64; 64],
+) -> [u64; 64]
     requires { ⌜ Ready (unitsView units n) ⌝ }
-    requires { ⌜ Gathered (unitsView units n) false (f .gained) ⌝ }
-    requires { ⌜ Gathered (unitsView units n) true (f .lost) ⌝ }
-    requires { ⌜ RunningTotals (unitsView units n) (f .before) (f .arrived) ⌝ }
+    requires { ⌜ Flows (unitsView units n) (now gained) (now lost) (now before) (now arrived) ⌝ }
     ensures { λ r. ⌜ CommittedVolumes (unitsView units n) r ⌝ }
 {
     let mut volumes = [0u64; 64];
@@ -99,8 +114,8 @@ pub fn committed(units: [Unit; 64], n: usize, f: Amounts) -> [u64; 64]
         if 0 < d {
             let k = d - 1;
             let w = units[k];
-            let own = contribution(f.gained[i], f.lost[i]);
-            volumes[i] = from_below(w, volumes[k], f.arrived[k], f.before[i], own);
+            let own = contribution(gained[i], lost[i]);
+            volumes[i] = from_below(w, volumes[k], arrived[k], before[i], own);
         } else {
             volumes[i] = u.commitment as u64;
         }

@@ -1,8 +1,6 @@
 // What titles add to the entries of units and aquifers.
-use model::Place;
 use model::Title;
 ghost use mathlib.Core.Path.{_≡_};
-ghost use Prim.Native.Nat.{_≤_};
 ghost use Rattle.titles.specs.Adds as adds;
 ghost use Rattle.titles.specs.Titled as whole;
 
@@ -67,7 +65,7 @@ fn raise(sums: &mut [u64; 64], number: u8, amount: u32)
 // What a title adds. A withdrawal from a unit adds its volume to the extraction and its return to the returns; a withdrawal from an
 // aquifer to the aquifer's extraction; a transfer from a unit to the giver's exports and the receiver's imports; a transfer from an
 // aquifer to the aquifer's extraction and the unit's imports.
-fn add(
+pub fn add(
     title: Title,
     extraction: &mut [u64; 64],
     exports: &mut [u64; 64],
@@ -104,41 +102,5 @@ fn add(
             raise(wells, aquifer, volume);
             raise(imports, unit, volume);
         }
-    }
-}
-
-// What the titles in force among the first `given` places add together to each entry.
-pub fn titled(titles: [Place; 256], given: usize) -> Sums
-    requires { ⌜ given ≤ 256 ⌝ }
-    ensures { λ r. ⌜ whole.TitledAll titles given r ⌝ }
-{
-    let mut extraction = [0u64; 64];
-    let mut exports = [0u64; 64];
-    let mut imports = [0u64; 64];
-    let mut returns = [0u64; 64];
-    let mut wells = [0u64; 64];
-    let mut k = 0;
-    while k < given {
-        let p = titles[k];
-        let title = p.title;
-        let in_force = p.in_force;
-        k += 1;
-        if in_force {
-            add(
-                title,
-                &mut extraction,
-                &mut exports,
-                &mut imports,
-                &mut returns,
-                &mut wells,
-            );
-        }
-    }
-    Sums {
-        extraction,
-        exports,
-        imports,
-        returns,
-        wells,
     }
 }

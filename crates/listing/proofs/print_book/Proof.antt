@@ -2,6 +2,7 @@
 use mathlib.Core.Path.{sym, ap, _∙_}
 use native.Mathlib.Omega.{arith}
 use Rattle.book.specs.declared.Opened.{Opened}
+use Rattle.book.proofs.Promises.{opened-sound}
 use Rattle.report.specs.Lines.{refusedLine}
 use Rattle.text.proofs.Writing.{widen, restate}
 use Rattle.listing.specs.Listing.{runText}
@@ -23,7 +24,9 @@ enum-told : tie.Need-enum-told
 enum-told c = search needs
 
 run-lines-requires : tie.Need-run-lines-requires
-run-lines-requires c κs = search needs
+run-lines-requires c κs =
+    let s = c .before .before .before .before .before .before .before .args .s .now in
+    (omega (arith, c .before .before .before .before .before .if1 .left), opened-sound s _ (c .before .before .before .before .read-book .ensures))
 
 enum-known-answer : tie.Need-enum-known-answer
 enum-known-answer c = search needs

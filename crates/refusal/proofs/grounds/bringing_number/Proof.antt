@@ -1,4 +1,4 @@
--- `register::bringing_number` meets its contract. Assumes nothing.
+-- `refusal::bringing_number` meets its contract. Assumes nothing.
 use Prim.Native.Nat.{_+_}
 use mathlib.Core.Path.{refl, sym, ap, _∙_}
 use mathlib.Core.Bool.{_||_}
@@ -20,10 +20,10 @@ exists-requires c κs = search needs
 exists-requires-2 : tie.Need-exists-requires-2
 exists-requires-2 c κs = search needs
 
-well : (c : tie.Then1) → Exists (c .before .before .args .t1 .«aquifer_count») (c .before .before .args .aquifer)
+well : (c : tie.Then1) → Exists (c .before .before .args .m) (c .before .before .args .aquifer)
 well c = number-exists _ _ (sym (c .before .exists .ensures) ∙ c .if1 .taken)
 
-there : (c : tie.Then2) → Exists (c .before .before .before .before .args .t1 .«unit_count») (c .before .before .before .before .args .unit)
+there : (c : tie.Then2) → Exists (c .before .before .before .before .args .n) (c .before .before .before .before .args .unit)
 there c = number-exists _ _ (sym (c .before .exists2 .ensures) ∙ c .if2 .taken)
 
 sub-w : tie.Need-sub-w
@@ -32,8 +32,8 @@ sub-w c = well (c .before .before) .positive
 mul-a : tie.Need-mul-a
 mul-a c = search needs
 
-element-copy-out-a : tie.Need-element-copy-out-a
-element-copy-out-a c = omega (arith, well (c .before .before), c .before .before .before .before .pre .aquifers)
+array-copy-out-a : tie.Need-array-copy-out-a
+array-copy-out-a c = omega (arith, well (c .before .before), c .before .before .before .before .pre)
 
 sub-k : tie.Need-sub-k
 sub-k c = there (c .before) .positive
@@ -41,8 +41,8 @@ sub-k c = there (c .before) .positive
 mul-u : tie.Need-mul-u
 mul-u c = search needs
 
-element-copy-out-u : tie.Need-element-copy-out-u
-element-copy-out-u c = omega (arith, there (c .before), c .before .before .before .before .before .pre .units)
+array-copy-out-u : tie.Need-array-copy-out-u
+array-copy-out-u c = omega (arith, there (c .before), c .before .before .before .before .before .pre)
 
 either-past-requires : tie.Need-either-past-requires
 either-past-requires c κs = search needs
@@ -53,14 +53,13 @@ volume-number-requires c κs = search needs
 returns : tie.Need-returns
 returns c =
     let start = c .before .before .before .before .before .before .before .before in
-    let b = start .args .t1 in
     let j = sub-one (start .args .aquifer) in
     let k = sub-one (start .args .unit) in
     let e =
     c .before .either-past .ensures
-    ∙ (λ i. past (getD (b .aquifers) (j i) emptyAquifer .extraction + start .args .volume) || past (getD (b .units) (k i) emptyUnit .imports + start .args .volume)) in
+    ∙ (λ i. past (getD (start .args .t3) (j i) emptyAquifer .extraction + start .args .volume) || past (getD (start .args .t1) (k i) emptyUnit .imports + start .args .volume)) in
     hit _ _ _ _ (t-and _ _ (sym (c .before .before .before .before .before .before .before .exists .ensures) ∙ c .before .before .before .before .before .before .if1 .taken) (sym (c .before .before .before .before .before .exists2 .ensures) ∙ c .before .before .before .before .if2 .taken))
-    (c .volume-number .ensures ∙ ap (volumeNumber (b .given) (start .args .volume)) e)
+    (c .volume-number .ensures ∙ ap (volumeNumber (start .args .given) (start .args .volume)) e)
 
 returns-2 : tie.Need-returns-2
 returns-2 c =
@@ -77,10 +76,10 @@ bringing-number-spec =
     exists-requires-2
     sub-w
     mul-a
-    element-copy-out-a
+    array-copy-out-a
     sub-k
     mul-u
-    element-copy-out-u
+    array-copy-out-u
     either-past-requires
     volume-number-requires
     returns

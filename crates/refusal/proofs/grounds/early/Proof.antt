@@ -1,10 +1,18 @@
--- `register::early` meets its contract. Assumes nothing.
+-- `refusal::early` meets its contract. Assumes nothing.
 use mathlib.Core.Path.{sym, ap, _∙_}
+use mathlib.Core.List.{[]}
+use lib.ListN.{getD}
 use borrow.Author.Needs.{needs}
-use Rattle.model.specs.View.{viewOf}
-use Rattle.refusal.specs.Steps.{earlyNumber}
+use Rattle.model.specs.Fresh.{emptyAquifer, emptyPlace}
+use Rattle.model.specs.View.{View}
+use Rattle.refusal.specs.Steps.{entriesView, earlyNumber}
+use Rattle.refusal.proofs.Giving.{transfer-others}
 use Rattle.refusal.proofs.grounds.early.Statement.{statement}
 use Rattle.refusal.proofs.grounds.early.Tie as tie
+
+-- The view of the entries.
+abbrev entries : tie.Start → View
+entries c = entriesView (c .args .units) (c .args .n) (c .args .aquifers) (c .args .m) (c .args .given)
 
 enum-known-t : tie.Need-enum-known-t
 enum-known-t c = search needs
@@ -31,16 +39,22 @@ bringing-number-requires : tie.Need-bringing-number-requires
 bringing-number-requires c κs = search needs
 
 returns : tie.Need-returns
-returns c = c .withdrawal-number .ensures ∙ ap (earlyNumber (viewOf (c .before .before .before .before .args .b))) (sym (c .before .before .t .given .1))
+returns c = c .withdrawal-number .ensures ∙ ap (earlyNumber (entries (c .before .before .before .before))) (sym (c .before .before .t .given .1))
 
 returns-2 : tie.Need-returns-2
-returns-2 c = c .pumping-number .ensures ∙ ap (earlyNumber (viewOf (c .before .before .before .before .args .b))) (sym (c .before .before .t2 .given .1))
+returns-2 c = c .pumping-number .ensures ∙ ap (earlyNumber (entries (c .before .before .before .before))) (sym (c .before .before .t2 .given .1))
 
 returns-3 : tie.Need-returns-3
-returns-3 c = c .transfer-number .ensures ∙ ap (earlyNumber (viewOf (c .before .before .before .before .args .b))) (sym (c .before .before .t3 .given .1))
+returns-3 c =
+    let start = c .before .before .before .before in
+    let t = c .before .before .t3 .given .0 in
+    c .transfer-number .ensures
+    ∙ sym (transfer-others (entriesView (start .args .units) (start .args .n) [] 0 (start .args .given)) (start .args .m)
+    (λ k. getD (start .args .aquifers) k emptyAquifer) (λ k. emptyPlace) (t .0) (t .1 .0) (t .1 .1 .0))
+    ∙ ap (earlyNumber (entries (c .before .before .before .before))) (sym (c .before .before .t3 .given .1))
 
 returns-4 : tie.Need-returns-4
-returns-4 c = c .bringing-number .ensures ∙ ap (earlyNumber (viewOf (c .before .before .before .before .args .b))) (sym (c .before .before .t4 .given .1))
+returns-4 c = c .bringing-number .ensures ∙ ap (earlyNumber (entries (c .before .before .before .before))) (sym (c .before .before .t4 .given .1))
 
 pub early-spec : {M : Type 1} → statement M
 early-spec =

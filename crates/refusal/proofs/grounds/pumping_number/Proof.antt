@@ -1,4 +1,4 @@
--- `register::pumping_number` meets its contract. Assumes nothing.
+-- `refusal::pumping_number` meets its contract. Assumes nothing.
 use Prim.Native.Nat.{_+_}
 use mathlib.Core.Path.{refl, sym, ap, _∙_}
 use lib.ListN.{getD}
@@ -16,7 +16,7 @@ use Rattle.refusal.proofs.grounds.pumping_number.Tie as tie
 exists-requires : tie.Need-exists-requires
 exists-requires c κs = search needs
 
-there : (c : tie.Then1) → Exists (c .before .before .args .t1 .«aquifer_count») (c .before .before .args .aquifer)
+there : (c : tie.Then1) → Exists (c .before .before .args .m) (c .before .before .args .aquifer)
 there c = number-exists _ _ (sym (c .before .exists .ensures) ∙ c .if1 .taken)
 
 sub-k : tie.Need-sub-k
@@ -25,8 +25,8 @@ sub-k c = there c .positive
 mul-a : tie.Need-mul-a
 mul-a c = search needs
 
-element-copy-out-a : tie.Need-element-copy-out-a
-element-copy-out-a c = omega (arith, there c, c .before .before .pre .aquifers)
+array-copy-out-a : tie.Need-array-copy-out-a
+array-copy-out-a c = omega (arith, there c, c .before .before .pre)
 
 past-requires : tie.Need-past-requires
 past-requires c κs = search needs
@@ -37,10 +37,9 @@ volume-number-requires c κs = search needs
 returns : tie.Need-returns
 returns c =
     let start = c .before .before .before .before .before in
-    let b = start .args .t1 in
     let k = sub-one (start .args .aquifer) in
-    let e = c .before .past .ensures ∙ (λ i. past (getD (b .aquifers) (k i) emptyAquifer .extraction + start .args .volume)) in
-    hit _ _ _ _ (sym (c .before .before .before .before .exists .ensures) ∙ c .before .before .before .if1 .taken) (c .volume-number .ensures ∙ ap (volumeNumber (b .given) (start .args .volume)) e)
+    let e = c .before .past .ensures ∙ (λ i. past (getD (start .args .t1) (k i) emptyAquifer .extraction + start .args .volume)) in
+    hit _ _ _ _ (sym (c .before .before .before .before .exists .ensures) ∙ c .before .before .before .if1 .taken) (c .volume-number .ensures ∙ ap (volumeNumber (start .args .given) (start .args .volume)) e)
 
 returns-2 : tie.Need-returns-2
 returns-2 c = miss _ _ _ _ (sym (c .before .exists .ensures) ∙ c .if1 .left) refl
@@ -52,7 +51,7 @@ pumping-number-spec =
     exists-requires
     sub-k
     mul-a
-    element-copy-out-a
+    array-copy-out-a
     past-requires
     volume-number-requires
     returns

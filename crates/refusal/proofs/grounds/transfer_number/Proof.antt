@@ -1,18 +1,17 @@
--- `register::transfer_number` meets its contract. Assumes nothing.
+-- `refusal::transfer_number` meets its contract. Assumes nothing.
 use Prim.Native.Nat.{_+_}
 use mathlib.Core.Path.{refl, sym, ap, _∙_}
 use mathlib.Core.Bool.{_||_}
+use mathlib.Core.List.{[]}
 use lib.ListN.{getD}
 use native.Mathlib.Omega.{arith}
 use native.Mathlib.Numerals.{sub-one}
 use borrow.Author.Needs.{needs}
 use Rattle.laws.proofs.Chain.{hit, miss, t-and, f-and, f-and-on}
 use Rattle.model.specs.Fresh.{emptyUnit}
-use Rattle.model.specs.View.{viewOf}
-use Rattle.river.proofs.Units.{ready-alone}
 use Rattle.basin.proofs.Soundness.{number-exists, Exists}
 use Rattle.refusal.specs.Grant.{past}
-use Rattle.refusal.specs.Steps.{volumeNumber}
+use Rattle.refusal.specs.Steps.{volumeNumber, entriesView}
 use Rattle.refusal.proofs.Giving.{downstream-alone}
 use Rattle.refusal.proofs.grounds.transfer_number.Statement.{statement}
 use Rattle.refusal.proofs.grounds.transfer_number.Tie as tie
@@ -23,43 +22,43 @@ exists-requires c κs = search needs
 exists-requires-2 : tie.Need-exists-requires-2
 exists-requires-2 c κs = search needs
 
-giver : (c : tie.Then1) → Exists (c .before .before .args .t1 .«unit_count») (c .before .before .args .from)
+giver : (c : tie.Then1) → Exists (c .before .before .args .n) (c .before .before .args .from)
 giver c = number-exists _ _ (sym (c .before .exists .ensures) ∙ c .if1 .taken)
 
-receiver : (c : tie.Then2) → Exists (c .before .before .before .before .args .t1 .«unit_count») (c .before .before .before .before .args .to)
+receiver : (c : tie.Then2) → Exists (c .before .before .before .before .args .n) (c .before .before .before .before .args .to)
 receiver c = number-exists _ _ (sym (c .before .exists2 .ensures) ∙ c .if2 .taken)
 
 is-downstream-requires : tie.Need-is-downstream-requires
 is-downstream-requires c κs =
-    (ready-alone _ (c .before .before .before .before .before .pre), giver (c .before .before .before) .positive, giver (c .before .before .before) .within, receiver (c .before) .positive)
+    (c .before .before .before .before .pre, giver (c .before .before) .positive, giver (c .before .before) .within, receiver c .positive)
 
 returns : tie.Need-returns
 returns c =
-    let start = c .before .before .before .before .before .before .before in
+    let start = c .before .before .before .before .before .before in
     hit _ _ _ _
-    (t-and _ _ (sym (c .before .before .before .before .before .before .exists .ensures) ∙ c .before .before .before .before .before .if1 .taken)
-    (sym (c .before .before .before .before .exists2 .ensures) ∙ c .before .before .before .if2 .taken))
-    (hit _ _ _ _ (sym (downstream-alone (viewOf (start .args .t1)) (start .args .from) (start .args .to)) ∙ sym (c .before .is-downstream .ensures) ∙ c .if3 .taken) refl)
+    (t-and _ _ (sym (c .before .before .before .before .before .exists .ensures) ∙ c .before .before .before .before .if1 .taken)
+    (sym (c .before .before .before .exists2 .ensures) ∙ c .before .before .if2 .taken))
+    (hit _ _ _ _ (sym (downstream-alone (entriesView (start .args .t1) (start .args .n) [] 0 (start .args .given)) (start .args .from) (start .args .to)) ∙ sym (c .before .is-downstream .ensures) ∙ c .if3 .taken) refl)
 
 sub-g : tie.Need-sub-g
-sub-g c = giver (c .before .before .before .before .before) .positive
+sub-g c = giver (c .before .before .before .before) .positive
 
 mul-giver : tie.Need-mul-giver
 mul-giver c = search needs
 
-element-copy-out-giver : tie.Need-element-copy-out-giver
-element-copy-out-giver c =
-    omega (arith, giver (c .before .before .before .before .before), c .before .before .before .before .before .before .before .pre .few)
+array-copy-out-giver : tie.Need-array-copy-out-giver
+array-copy-out-giver c =
+    omega (arith, giver (c .before .before .before .before), c .before .before .before .before .before .before .pre .few)
 
 sub-k : tie.Need-sub-k
-sub-k c = receiver (c .before .before .before .before) .positive
+sub-k c = receiver (c .before .before .before) .positive
 
 mul-receiver : tie.Need-mul-receiver
 mul-receiver c = search needs
 
-element-copy-out-receiver : tie.Need-element-copy-out-receiver
-element-copy-out-receiver c =
-    omega (arith, receiver (c .before .before .before .before), c .before .before .before .before .before .before .before .before .pre .few)
+array-copy-out-receiver : tie.Need-array-copy-out-receiver
+array-copy-out-receiver c =
+    omega (arith, receiver (c .before .before .before), c .before .before .before .before .before .before .before .pre .few)
 
 either-past-requires : tie.Need-either-past-requires
 either-past-requires c κs = search needs
@@ -70,18 +69,17 @@ volume-number-requires c κs = search needs
 returns-2 : tie.Need-returns-2
 returns-2 c =
     let else = c .before .before .before .before in
-    let start = else .before .before .before .before .before .before .before in
-    let b = start .args .t1 in
+    let start = else .before .before .before .before .before .before in
     let j = sub-one (start .args .from) in
     let k = sub-one (start .args .to) in
     let e =
     c .before .either-past .ensures
-    ∙ (λ i. past (getD (b .units) (j i) emptyUnit .exports + start .args .volume) || past (getD (b .units) (k i) emptyUnit .imports + start .args .volume)) in
+    ∙ (λ i. past (getD (start .args .t1) (j i) emptyUnit .exports + start .args .volume) || past (getD (start .args .t1) (k i) emptyUnit .imports + start .args .volume)) in
     hit _ _ _ _
-    (t-and _ _ (sym (else .before .before .before .before .before .before .exists .ensures) ∙ else .before .before .before .before .before .if1 .taken)
-    (sym (else .before .before .before .before .exists2 .ensures) ∙ else .before .before .before .if2 .taken))
-    (miss _ _ _ _ (sym (downstream-alone (viewOf b) (start .args .from) (start .args .to)) ∙ sym (else .before .is-downstream .ensures) ∙ else .if3 .left)
-    (c .volume-number .ensures ∙ ap (volumeNumber (b .given) (start .args .volume)) e))
+    (t-and _ _ (sym (else .before .before .before .before .before .exists .ensures) ∙ else .before .before .before .before .if1 .taken)
+    (sym (else .before .before .before .exists2 .ensures) ∙ else .before .before .if2 .taken))
+    (miss _ _ _ _ (sym (downstream-alone (entriesView (start .args .t1) (start .args .n) [] 0 (start .args .given)) (start .args .from) (start .args .to)) ∙ sym (else .before .is-downstream .ensures) ∙ else .if3 .left)
+    (c .volume-number .ensures ∙ ap (volumeNumber (start .args .given) (start .args .volume)) e))
 
 returns-3 : tie.Need-returns-3
 returns-3 c =
@@ -100,10 +98,10 @@ transfer-number-spec =
     returns
     sub-g
     mul-giver
-    element-copy-out-giver
+    array-copy-out-giver
     sub-k
     mul-receiver
-    element-copy-out-receiver
+    array-copy-out-receiver
     either-past-requires
     volume-number-requires
     returns-2

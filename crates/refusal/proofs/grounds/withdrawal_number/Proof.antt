@@ -1,4 +1,4 @@
--- `register::withdrawal_number` meets its contract. Assumes nothing.
+-- `refusal::withdrawal_number` meets its contract. Assumes nothing.
 use Prim.Native.Nat.{_+_}
 use mathlib.Core.Path.{refl, sym, ap, _∙_}
 use mathlib.Core.Bool.{_||_}
@@ -21,7 +21,7 @@ exists-requires c κs = search needs
 exists-requires-2 : tie.Need-exists-requires-2
 exists-requires-2 c κs = search needs
 
-there : (c : tie.Then1) → Exists (c .before .before .args .t1 .«unit_count») (c .before .before .args .unit)
+there : (c : tie.Then1) → Exists (c .before .before .args .n) (c .before .before .args .unit)
 there c = number-exists _ _ (sym (c .before .exists .ensures) ∙ c .if1 .taken)
 
 sub-k : tie.Need-sub-k
@@ -30,8 +30,8 @@ sub-k c = there (c .before .before) .positive
 mul-u : tie.Need-mul-u
 mul-u c = search needs
 
-element-copy-out-u : tie.Need-element-copy-out-u
-element-copy-out-u c = omega (arith, there (c .before .before), c .before .before .before .before .pre .units)
+array-copy-out-u : tie.Need-array-copy-out-u
+array-copy-out-u c = omega (arith, there (c .before .before), c .before .before .before .before .pre)
 
 returned-requires : tie.Need-returned-requires
 returned-requires c κs = search needs
@@ -45,13 +45,12 @@ volume-number-requires c κs = search needs
 returns : tie.Need-returns
 returns c =
     let start = c .before .before .before .before .before .before .before .before in
-    let b = start .args .t1 in
     let k = sub-one (start .args .unit) in
     let e =
     c .before .either-past .ensures
-    ∙ (λ i. past (getD (b .units) (k i) emptyUnit .extraction + start .args .volume) || past (getD (b .units) (k i) emptyUnit .returns + c .before .before .returned .ensures i)) in
+    ∙ (λ i. past (getD (start .args .t1) (k i) emptyUnit .extraction + start .args .volume) || past (getD (start .args .t1) (k i) emptyUnit .returns + c .before .before .returned .ensures i)) in
     hit _ _ _ _ (sym (c .before .before .before .before .before .before .before .exists .ensures) ∙ c .before .before .before .before .before .before .if1 .taken)
-    (hit _ _ _ _ (sym (c .before .before .before .before .before .exists2 .ensures) ∙ c .before .before .before .before .if2 .taken) (c .volume-number .ensures ∙ ap (volumeNumber (b .given) (start .args .volume)) e))
+    (hit _ _ _ _ (sym (c .before .before .before .before .before .exists2 .ensures) ∙ c .before .before .before .before .if2 .taken) (c .volume-number .ensures ∙ ap (volumeNumber (start .args .given) (start .args .volume)) e))
 
 returns-2 : tie.Need-returns-2
 returns-2 c =
@@ -68,7 +67,7 @@ withdrawal-number-spec =
     exists-requires-2
     sub-k
     mul-u
-    element-copy-out-u
+    array-copy-out-u
     returned-requires
     either-past-requires
     volume-number-requires

@@ -4,12 +4,16 @@ use mathlib.Core.Path.{sym, ap, _∙_}
 use native.Mathlib.Omega.{arith}
 use native.Mathlib.Numerals.{sub-one}
 use borrow.Author.Needs.{needs}
-use Rattle.model.specs.View.{viewOf}
-use Rattle.river.proofs.Units.{ready-alone}
+use Rattle.model.specs.View.{View}
 use Rattle.refusal.specs.Grant.{dry, drained}
+use Rattle.refusal.specs.Steps.{entriesView}
 use Rattle.refusal.proofs.Giving.{dry-alone, UnitGives, unit-gives, AquiferGives, aquifer-gives}
 use Rattle.refusal.proofs.water.no_water.Statement.{statement}
 use Rattle.refusal.proofs.water.no_water.Tie as tie
+
+-- The view of the units and the aquifers.
+abbrev entries : tie.Start → View
+entries c = entriesView (c .args .units) (c .args .n) (c .args .t3) (c .args .m) 0
 
 giving-unit-requires : tie.Need-giving-unit-requires
 giving-unit-requires c κs = search needs
@@ -21,19 +25,19 @@ sub-dry : tie.Need-sub-dry
 sub-dry c = search needs
 
 -- The unit that gives.
-unit-of : (c : tie.Then1) → UnitGives (viewOf (c .before .before .args .t1)) (c .before .before .args .t)
+unit-of : (c : tie.Then1) → UnitGives (entries (c .before .before)) (c .before .before .args .t)
 unit-of c = unit-gives _ _ (c .before .before .pre .2) (omega (arith, c .if1 .taken, c .before .giving-unit .ensures))
 
 dry-requires : tie.Need-dry-requires
 dry-requires c κs =
-    let then = c .before in
+    let then = c in
     let start = then .before .before in
-    (ready-alone (viewOf (start .args .t1)) (start .pre .0), omega (arith, then .if1 .taken, then .before .giving-unit .ensures, unit-of then .within))
+    (start .pre .0, omega (arith, then .if1 .taken, then .before .giving-unit .ensures, unit-of then .within))
 
 returns : tie.Need-returns
 returns c =
-    let then = c .before .before in
-    let v = viewOf (then .before .before .args .t1) in
+    let then = c .before in
+    let v = entries (then .before .before) in
     c .dry .ensures
     ∙ dry-alone v _
     ∙ ap (dry v) (sub-one _)
@@ -47,7 +51,7 @@ cast-k : tie.Need-cast-k
 cast-k c = search needs
 
 -- The aquifer that gives.
-aquifer-of : (c : tie.Else1) → AquiferGives (viewOf (c .before .before .args .t1)) (c .before .before .args .t)
+aquifer-of : (c : tie.Else1) → AquiferGives (entries (c .before .before)) (c .before .before .args .t)
 aquifer-of c = aquifer-gives _ _ (c .before .before .pre .2) (λ h. omega (arith, h, c .if1 .left, c .before .giving-unit .ensures))
 
 sub-k : tie.Need-sub-k
@@ -56,11 +60,11 @@ sub-k c = omega (arith, c .giving-aquifer .ensures, aquifer-of (c .before) .posi
 mul-a : tie.Need-mul-a
 mul-a c = search needs
 
-well-inside : (c : tie.After-giving-aquifer) → c .giving-aquifer .result - 1 < c .before .before .before .args .t1 .«aquifer_count»
+well-inside : (c : tie.After-giving-aquifer) → c .giving-aquifer .result - 1 < c .before .before .before .args .m
 well-inside c = omega (arith, c .giving-aquifer .ensures, aquifer-of (c .before) .positive, aquifer-of (c .before) .within)
 
-element-copy-out-a : tie.Need-element-copy-out-a
-element-copy-out-a c = omega (arith, well-inside c, c .before .before .before .pre .1 .few)
+array-copy-out-a : tie.Need-array-copy-out-a
+array-copy-out-a c = omega (arith, well-inside c, c .before .before .before .pre .1 .few)
 
 drained-requires : tie.Need-drained-requires
 drained-requires c κs =
@@ -72,7 +76,7 @@ returns-2 : tie.Need-returns-2
 returns-2 c =
     let given = c .before .before in
     let else = given .before in
-    let v = viewOf (else .before .before .args .t1) in
+    let v = entries (else .before .before) in
     c .drained .ensures
     ∙ ap (drained v) (sub-one (given .giving-aquifer .result))
     ∙ ap (λ (n : ℕ). drained v (pred n)) (given .giving-aquifer .ensures)
@@ -91,6 +95,6 @@ no-water-spec =
     cast-k
     sub-k
     mul-a
-    element-copy-out-a
+    array-copy-out-a
     drained-requires
     returns-2)

@@ -26,7 +26,7 @@ use Rattle.river.proofs.flow.flow_amounts.Statement.{statement}
 use Rattle.river.proofs.flow.flow_amounts.Tie as tie
 
 abbrev Inv-loop : tie.InvT-loop
-Inv-loop n units gained₀ lost₀ before₀ arrived₀ i₀ gained lost before arrived i =
+Inv-loop n gained₀ lost₀ before₀ arrived₀ units i₀ gained lost before arrived i =
     (i ≤ n)
     × Carried 64 (downstream (unitsView units n)) (gathered (unitsView units n) false) i gained
     × Carried 64 (downstream (unitsView units n)) (gathered (unitsView units n) true) i lost
@@ -34,10 +34,21 @@ Inv-loop n units gained₀ lost₀ before₀ arrived₀ i₀ gained lost before 
     × Arrived 64 (downstream (unitsView units n)) (contribution (unitsView units n)) i arrived
 
 abbrev μ-loop : tie.MeasureT-loop
-μ-loop n units gained₀ lost₀ before₀ arrived₀ i₀ gained lost before arrived i = n - i
+μ-loop n gained₀ lost₀ before₀ arrived₀ units i₀ gained lost before arrived i = n - i
+
+-- The view of the units that the loop passes.
+abbrev view : tie.At-loop Inv-loop μ-loop → View
+view c = unitsView (c .before .args .t1) (c .before .args .n)
 
 loop-holds : tie.Need-loop-holds Inv-loop μ-loop
-loop-holds c = (omega arith, carried-start 64 _ _, carried-start 64 _ _, filled-start 64 0 _, arrived-start 64 _ _)
+loop-holds c =
+    let p = c .pre .1 in (
+      omega arith,
+      rw (p .gained) (carried-start 64 _ _),
+      rw (p .lost) (carried-start 64 _ _),
+      rw (p .before) (filled-start 64 0 _),
+      rw (p .arrived) (arrived-start 64 _ _),
+    )
 
 mul-u : tie.Need-mul-u Inv-loop μ-loop
 mul-u c = omega arith
@@ -48,93 +59,106 @@ array-copy-out-u c = omega arith
 mul-more : tie.Need-mul-more Inv-loop μ-loop
 mul-more c = omega arith
 
-array-read-more : tie.Need-array-read-more Inv-loop μ-loop
-array-read-more c = omega arith
+element-copy-out-more : tie.Need-element-copy-out-more Inv-loop μ-loop
+element-copy-out-more c = omega arith
 
 gain-requires : tie.Need-gain-requires Inv-loop μ-loop
-gain-requires c κs = small (unitsView (c .before .before .before .args .t1) (c .before .before .before .args .n)) (c .before .before .before .pre) _ (c .before .loop-test .taken)
+gain-requires c κs =
+    let loop = c .before .before .before in
+    small (view loop) (loop .before .pre .0) _ (c .before .before .loop-test .taken)
 
 -- What unit i has gained when it is passed.
 more-is : (c : tie.After-gain Inv-loop μ-loop)
-    → getD (c .before .before .before .loop .gained) (c .before .before .before .loop .i) 0 + c .gain .result
-    ≡ gathered (unitsView (c .before .before .before .before .args .t1) (c .before .before .before .before .args .n)) false (c .before .before .before .loop .i)
+    → let at = c .before .before .before .before in
+    getD (at .loop .gained) (at .loop .i) 0 + c .gain .result ≡ gathered (view at) false (at .loop .i)
 more-is c =
-    let v = unitsView (c .before .before .before .before .args .t1) (c .before .before .before .before .args .n) in
-    let loop = c .before .before .before .loop in
-    omega (arith, loop .inv .1 .ahead (loop .i) (omega arith) (array-read-more (c .before)), c .gain .ensures, gathered-is v false (loop .i))
+    let at = c .before .before .before .before in
+    let loop = at .loop in
+    omega (
+      arith,
+      loop .inv .1 .ahead (loop .i) (omega arith) (element-copy-out-more (c .before .before)),
+      c .gain .ensures,
+      gathered-is (view at) false (loop .i),
+    )
 
 add-more : tie.Need-add-more Inv-loop μ-loop
 add-more c =
-    let start = c .before .before .before .before in
-    let i = c .before .before .before .loop .i in
-    omega (arith, more-is c, gathered-small (unitsView (start .args .t1) (start .args .n)) false (start .pre) i (c .before .before .loop-test .taken))
+    let at = c .before .before .before .before in
+    omega (arith, more-is c, gathered-small (view at) false (at .before .pre .0) (at .loop .i) (c .before .before .before .loop-test .taken))
 
 mul-less : tie.Need-mul-less Inv-loop μ-loop
 mul-less c = omega arith
 
-array-read-less : tie.Need-array-read-less Inv-loop μ-loop
-array-read-less c = omega arith
+element-copy-out-less : tie.Need-element-copy-out-less Inv-loop μ-loop
+element-copy-out-less c = omega arith
 
 loss-requires : tie.Need-loss-requires Inv-loop μ-loop
-loss-requires c κs = gain-requires (c .before) κs
+loss-requires c κs = gain-requires (c .before .before) κs
 
 -- What unit i has lost when it is passed.
 less-is : (c : tie.After-loss Inv-loop μ-loop)
-    → getD (c .before .before .before .before .loop .lost) (c .before .before .before .before .loop .i) 0 + c .loss .result
-    ≡ gathered (unitsView (c .before .before .before .before .before .args .t1) (c .before .before .before .before .before .args .n)) true (c .before .before .before .before .loop .i)
+    → let at = c .before .before .before .before .before .before in
+    getD (at .loop .lost) (at .loop .i) 0 + c .loss .result ≡ gathered (view at) true (at .loop .i)
 less-is c =
-    let v = unitsView (c .before .before .before .before .before .args .t1) (c .before .before .before .before .before .args .n) in
-    let loop = c .before .before .before .before .loop in
-    omega (arith, loop .inv .2 .ahead (loop .i) (omega arith) (array-read-less (c .before)), c .loss .ensures, gathered-is v true (loop .i))
+    let at = c .before .before .before .before .before .before in
+    let loop = at .loop in
+    omega (
+      arith,
+      loop .inv .2 .ahead (loop .i) (omega arith) (element-copy-out-less (c .before .before)),
+      c .loss .ensures,
+      gathered-is (view at) true (loop .i),
+    )
 
 add-less : tie.Need-add-less Inv-loop μ-loop
 add-less c =
-    let start = c .before .before .before .before .before in
-    let i = c .before .before .before .before .loop .i in
-    omega (arith, less-is c, gathered-small (unitsView (start .args .t1) (start .args .n)) true (start .pre) i (c .before .before .before .loop-test .taken))
+    let at = c .before .before .before .before .before .before in
+    omega (arith, less-is c, gathered-small (view at) true (at .before .pre .0) (at .loop .i) (c .before .before .before .before .before .loop-test .taken))
 
 mul-gained : tie.Need-mul-gained Inv-loop μ-loop
 mul-gained c = omega arith
 
-array-write-gained : tie.Need-array-write-gained Inv-loop μ-loop
-array-write-gained c = omega arith
+element-write-gained : tie.Need-element-write-gained Inv-loop μ-loop
+element-write-gained c = omega arith
 
 mul-lost : tie.Need-mul-lost Inv-loop μ-loop
 mul-lost c = omega arith
 
-array-write-lost : tie.Need-array-write-lost Inv-loop μ-loop
-array-write-lost c = omega arith
+element-write-lost : tie.Need-element-write-lost Inv-loop μ-loop
+element-write-lost c = omega arith
 
 cast-d : tie.Need-cast-d Inv-loop μ-loop
 cast-d c = omega arith
 
 -- The two arrays when unit i is whole.
 gained-whole : (c : tie.After-loss Inv-loop μ-loop)
-    → let start = c .before .before .before .before .before in
-    let v = unitsView (start .args .t1) (start .args .n) in
-    let loop = c .before .before .before .before .loop in
-    Whole 64 (downstream v) (gathered v false) (loop .i) (set (loop .gained) (loop .i) (getD (loop .gained) (loop .i) 0 + c .before .gain .result))
+    → let at = c .before .before .before .before .before .before in
+    let loop = at .loop in
+    Whole 64 (downstream (view at)) (gathered (view at) false) (loop .i)
+    (set (loop .gained) (loop .i) (getD (loop .gained) (loop .i) 0 + c .before .before .gain .result))
 gained-whole c =
-    let v = unitsView (c .before .before .before .before .before .args .t1) (c .before .before .before .before .before .args .n) in
-    let loop = c .before .before .before .before .loop in
-    rw (more-is (c .before)) (carried-whole 64 (downstream v) (gathered v false) (loop .i) (loop .gained) (array-write-gained c) (loop .inv .1))
+    let at = c .before .before .before .before .before .before in
+    let loop = at .loop in
+    rw (more-is (c .before .before))
+    (carried-whole 64 (downstream (view at)) (gathered (view at) false) (loop .i) (loop .gained) (element-write-gained c) (loop .inv .1))
 
 lost-whole : (c : tie.After-loss Inv-loop μ-loop)
-    → let start = c .before .before .before .before .before in
-    let v = unitsView (start .args .t1) (start .args .n) in
-    let loop = c .before .before .before .before .loop in
-    Whole 64 (downstream v) (gathered v true) (loop .i) (set (loop .lost) (loop .i) (getD (loop .lost) (loop .i) 0 + c .loss .result))
+    → let at = c .before .before .before .before .before .before in
+    let loop = at .loop in
+    Whole 64 (downstream (view at)) (gathered (view at) true) (loop .i)
+    (set (loop .lost) (loop .i) (getD (loop .lost) (loop .i) 0 + c .loss .result))
 lost-whole c =
-    let v = unitsView (c .before .before .before .before .before .args .t1) (c .before .before .before .before .before .args .n) in
-    let loop = c .before .before .before .before .loop in
-    rw (less-is c) (carried-whole 64 (downstream v) (gathered v true) (loop .i) (loop .lost) (array-write-lost c) (loop .inv .2))
+    let at = c .before .before .before .before .before .before in
+    let loop = at .loop in
+    rw (less-is c)
+    (carried-whole 64 (downstream (view at)) (gathered (view at) true) (loop .i) (loop .lost) (element-write-lost c) (loop .inv .2))
 
 onward : (c : tie.Then1 Inv-loop μ-loop)
-    → Below (unitsView (c .before .before .before .before .before .before .before .args .t1) (c .before .before .before .before .before .before .before .args .n)) (c .before .before .before .before .before .before .loop .i)
+    → let at = c .before .before .before .before .before .before .before .before in
+    Below (view at) (at .loop .i)
 onward c =
-    let start = c .before .before .before .before .before .before .before in
-    below-of (unitsView (start .args .t1) (start .args .n)) (start .pre) (c .before .before .before .before .before .before .loop .i)
-    (c .before .before .before .before .before .loop-test .taken) (omega (arith, c .if1 .taken))
+    let at = c .before .before .before .before .before .before .before .before in
+    below-of (view at) (at .before .pre .0) (at .loop .i)
+    (c .before .before .before .before .before .before .before .loop-test .taken) (omega (arith, c .if1 .taken))
 
 -- The downstream unit by its place: a later unit of the balance.
 record Place (v : View) (i : ℕ) : Type 0 where
@@ -151,66 +175,75 @@ sub-k c = omega arith
 mul-gained-2 : tie.Need-mul-gained-2 Inv-loop μ-loop
 mul-gained-2 c = omega arith
 
-array-read-gained : tie.Need-array-read-gained Inv-loop μ-loop
-array-read-gained c = omega (arith, onward c .within, c .before .before .before .before .before .before .before .pre .few)
+element-copy-out-gained : tie.Need-element-copy-out-gained Inv-loop μ-loop
+element-copy-out-gained c =
+    omega (arith, onward c .within, c .before .before .before .before .before .before .before .before .before .pre .0 .few)
 
 add-gained : tie.Need-add-gained Inv-loop μ-loop
 add-gained c =
-    let start = c .before .before .before .before .before .before .before in
-    let v = unitsView (start .args .t1) (start .args .n) in
-    let i = c .before .before .before .before .before .before .loop .i in
-    let q = place-of v i (onward c) in
-    omega (arith, more-is (c .before .before .before), left-small v false (start .pre) i (downstream v i - 1) (q .later) (q .within) _ (gained-whole (c .before .before)))
+    let at = c .before .before .before .before .before .before .before .before .before in
+    let v = view at in
+    let i = at .loop .i in
+    let q = place-of v i (onward (c .before)) in
+    omega (
+      arith,
+      more-is (c .before .before .before .before .before),
+      left-small v false (at .before .pre .0) i (downstream v i - 1) (q .later) (q .within) _ (gained-whole (c .before .before .before)),
+    )
 
 mul-gained-3 : tie.Need-mul-gained-3 Inv-loop μ-loop
 mul-gained-3 c = omega arith
 
-array-write-gained-2 : tie.Need-array-write-gained-2 Inv-loop μ-loop
-array-write-gained-2 c = array-read-gained c
+element-write-gained-2 : tie.Need-element-write-gained-2 Inv-loop μ-loop
+element-write-gained-2 c = element-copy-out-gained (c .before)
 
 mul-lost-2 : tie.Need-mul-lost-2 Inv-loop μ-loop
 mul-lost-2 c = omega arith
 
-array-read-lost : tie.Need-array-read-lost Inv-loop μ-loop
-array-read-lost c = array-read-gained c
+element-copy-out-lost : tie.Need-element-copy-out-lost Inv-loop μ-loop
+element-copy-out-lost c = element-copy-out-gained (c .before)
 
 add-lost : tie.Need-add-lost Inv-loop μ-loop
 add-lost c =
-    let start = c .before .before .before .before .before .before .before in
-    let v = unitsView (start .args .t1) (start .args .n) in
-    let i = c .before .before .before .before .before .before .loop .i in
-    let q = place-of v i (onward c) in
-    omega (arith, less-is (c .before .before), left-small v true (start .pre) i (downstream v i - 1) (q .later) (q .within) _ (lost-whole (c .before .before)))
+    let at = c .before .before .before .before .before .before .before .before .before .before in
+    let v = view at in
+    let i = at .loop .i in
+    let q = place-of v i (onward (c .before .before)) in
+    omega (
+      arith,
+      less-is (c .before .before .before .before),
+      left-small v true (at .before .pre .0) i (downstream v i - 1) (q .later) (q .within) _ (lost-whole (c .before .before .before .before)),
+    )
 
 mul-lost-3 : tie.Need-mul-lost-3 Inv-loop μ-loop
 mul-lost-3 c = omega arith
 
-array-write-lost-2 : tie.Need-array-write-lost-2 Inv-loop μ-loop
-array-write-lost-2 c = array-read-gained c
+element-write-lost-2 : tie.Need-element-write-lost-2 Inv-loop μ-loop
+element-write-lost-2 c = element-copy-out-gained (c .before .before)
 
 mul-found : tie.Need-mul-found Inv-loop μ-loop
 mul-found c = omega arith
 
-array-read-found : tie.Need-array-read-found Inv-loop μ-loop
-array-read-found c = array-read-gained c
+element-copy-out-found : tie.Need-element-copy-out-found Inv-loop μ-loop
+element-copy-out-found c = element-copy-out-gained (c .before .before)
 
 mul-before : tie.Need-mul-before Inv-loop μ-loop
 mul-before c = omega arith
 
-array-write-before : tie.Need-array-write-before Inv-loop μ-loop
-array-write-before c = omega arith
+element-write-before : tie.Need-element-write-before Inv-loop μ-loop
+element-write-before c = omega arith
 
 contribution-requires : tie.Need-contribution-requires Inv-loop μ-loop
 contribution-requires c κs = search needs
 
 -- What the unit leaves is its contribution.
 contributed : (c : tie.After-contribution Inv-loop μ-loop)
-    → c .contribution .result
-    ≡ contribution (unitsView (c .before .before .before .before .before .before .before .before .args .t1) (c .before .before .before .before .before .before .before .before .args .n)) (c .before .before .before .before .before .before .before .loop .i)
+    → let at = c .before .before .before .before .before .before .before .before .before .before .before .before in
+    c .contribution .result ≡ contribution (view at) (at .loop .i)
 contributed c =
-    let v = unitsView (c .before .before .before .before .before .before .before .before .args .t1) (c .before .before .before .before .before .before .before .before .args .n) in
-    let i = c .before .before .before .before .before .before .before .loop .i in
-    omega (arith, c .contribution .ensures, more-is (c .before .before .before .before), less-is (c .before .before .before), contribution-is v i)
+    let at = c .before .before .before .before .before .before .before .before .before .before .before .before in
+    let passed = c .before .before .before .before .before .before in
+    omega (arith, c .contribution .ensures, more-is (passed .before .before), less-is passed, contribution-is (view at) (at .loop .i))
 
 found-is : (v : View) (i : ℕ) → Below v i → arriving naturals (downstream v) (contribution v) i (downstream v i - 1) ≡ runningBefore v i
 found-is v i b = rw (ne-eqb (downstream v i) 0 (omega (arith, b .next)), sub-one (downstream v i))
@@ -220,52 +253,60 @@ outlet-is v i e = rw (eq-eqb (downstream v i) 0 e)
 
 add-arrived : tie.Need-add-arrived Inv-loop μ-loop
 add-arrived c =
-    let start = c .before .before .before .before .before .before .before .before in
-    let v = unitsView (start .args .t1) (start .args .n) in
-    let loop = c .before .before .before .before .before .before .before .loop in
+    let at = c .before .before .before .before .before .before .before .before .before .before .before .before in
+    let v = view at in
+    let i = at .loop .i in
+    let here = c .before .before .before .before in
     omega (
       arith,
-      loop .inv .4 .each (downstream v (loop .i) - 1) (array-read-gained (c .before)),
+      at .loop .inv .4 .each (downstream v i - 1) (element-copy-out-gained here),
       contributed c,
-      left-within v (loop .i) (onward (c .before)),
-      total-small v (start .pre) (pred (downstream v (loop .i))) (onward (c .before) .within),
+      left-within v i (onward here),
+      total-small v (at .before .pre .0) (pred (downstream v i)) (onward here .within),
     )
 
 mul-arrived : tie.Need-mul-arrived Inv-loop μ-loop
 mul-arrived c = omega arith
 
-array-write-arrived : tie.Need-array-write-arrived Inv-loop μ-loop
-array-write-arrived c = array-read-gained (c .before)
+element-write-arrived : tie.Need-element-write-arrived Inv-loop μ-loop
+element-write-arrived c = element-copy-out-gained (c .before .before .before .before)
 
 add-i : tie.Need-add-i Inv-loop μ-loop
 add-i c = omega arith
 
 loop-less : tie.Need-loop-less Inv-loop μ-loop
-loop-less c = falls _ _ (c .before .before .before .before .before .loop-test .taken)
+loop-less c = falls _ _ (c .before .before .before .before .before .before .before .loop-test .taken)
 
 loop-again : tie.Need-loop-again Inv-loop μ-loop
 loop-again c =
-    let start = c .before .before .before .before .before .before .before in
-    let v = unitsView (start .args .t1) (start .args .n) in
-    let loop = c .before .before .before .before .before .before .loop in
+    let at = c .before .before .before .before .before .before .before .before in
+    let v = view at in
+    let loop = at .loop in
     let i = loop .i in
     let k = downstream v i - 1 in
-    let t = c .before .before .before .before .before .loop-test .taken in
-    let few : i < 64 = omega (arith, start .pre .few) in
-    let g = gained-whole (c .before .before) in
-    let l = lost-whole (c .before .before) in
+    let t = c .before .before .before .before .before .before .before .loop-test .taken in
+    let few : i < 64 = omega (arith, at .before .pre .0 .few) in
+    let passed = c .before .before in
+    let g = gained-whole passed in
+    let l = lost-whole passed in
+    let more = more-is (passed .before .before) in
     rw (add-one i)
     (⊎-elim
     (λ w.
-    let here : tie.After-contribution Inv-loop μ-loop = record { before = record { before = c .before; if1 = w .0 }; contribution = w .1 } in
-    let b = onward (here .before) in
-    let h = array-read-gained (here .before) in
+    let here : tie.Then1 Inv-loop μ-loop = record { before = c .before; if1 = w .0 } in
+    let left : tie.After-contribution Inv-loop μ-loop =
+    record {
+      before = record { before = record { before = record { before = here; gained = w .1 }; lost = w .2 }; found = w .3 };
+      contribution = w .4;
+    } in
+    let b = onward here in
+    let h = element-copy-out-gained here in
     let q = place-of v i b in (
       t,
-      rw (w .2, more-is (c .before .before .before)) (whole-on 64 (downstream v) (gathered v false) i k _ (q .next) (q .later) h (rw (more-is (c .before .before .before)) at g)),
-      rw (w .3, less-is (c .before .before)) (whole-on 64 (downstream v) (gathered v true) i k _ (q .next) (q .later) h (rw (less-is (c .before .before)) at l)),
-      rw (w .4) (filled-put 64 0 (runningBefore v) i (loop .before) _ few (loop .inv .4 .each k h ∙ found-is v i b) (loop .inv .3)),
-      rw (w .5, contributed here) (arrived-on 64 (downstream v) (contribution v) i k (loop .arrived) (q .next) h (loop .inv .4)),
+      rw (w .5, more) (whole-on 64 (downstream v) (gathered v false) i k _ (q .next) (q .later) h (rw more at g)),
+      rw (w .6, less-is passed) (whole-on 64 (downstream v) (gathered v true) i k _ (q .next) (q .later) h (rw (less-is passed) at l)),
+      rw (w .7) (filled-put 64 0 (runningBefore v) i (loop .before) _ few (loop .inv .4 .each k h ∙ found-is v i b) (loop .inv .3)),
+      rw (w .8, contributed left) (arrived-on 64 (downstream v) (contribution v) i k (loop .arrived) (q .next) h (loop .inv .4)),
     ))
     (λ w.
     let e : downstream v i ≡ 0 = omega (arith, w .0 .left) in (
@@ -279,23 +320,25 @@ loop-again c =
 
 returns : tie.Need-returns Inv-loop μ-loop
 returns c =
-    let v = unitsView (c .before .before .args .t1) (c .before .before .args .n) in
-    let r = c .before .before .pre in
+    let v = view (c .before) in
+    let r = c .before .before .pre .0 in
     let loop = c .before .loop in
     let e : loop .i ≡ v .units = omega (arith, loop .inv .0, c .loop-test .left) in
     let f = rw e at (loop .inv .3) in
-    let g = rw e at (loop .inv .4) in (
-      carried-gathered v false r _ (rw e at (loop .inv .1)),
-      (
-        carried-gathered v true r _ (rw e at (loop .inv .2)),
-        record {
-          long-before = f .long;
-          long-arrived = g .long;
-          each-before = f .done;
-          each-arrived = λ w h. g .each w (omega (arith, r .few)) ∙ arriving-stays (downstream v) (contribution v) (v .units) (v .units) w (tree v r) (omega arith) (omega arith);
-        },
-      ),
-    )
+    let g = rw e at (loop .inv .4) in
+    record {
+      gained = carried-gathered v false r _ (rw e at (loop .inv .1));
+      lost = carried-gathered v true r _ (rw e at (loop .inv .2));
+      totals =
+          record {
+            long-before = f .long;
+            long-arrived = g .long;
+            each-before = f .done;
+            each-arrived = λ w h.
+                g .each w (omega (arith, r .few))
+                ∙ arriving-stays (downstream v) (contribution v) (v .units) (v .units) w (tree v r) (omega arith) (omega arith);
+          };
+    }
 
 pub flow-amounts-spec : {M : Type 1} → statement M
 flow-amounts-spec =
@@ -307,37 +350,37 @@ flow-amounts-spec =
     mul-u
     array-copy-out-u
     mul-more
-    array-read-more
+    element-copy-out-more
     gain-requires
     add-more
     mul-less
-    array-read-less
+    element-copy-out-less
     loss-requires
     add-less
     mul-gained
-    array-write-gained
+    element-write-gained
     mul-lost
-    array-write-lost
+    element-write-lost
     cast-d
     sub-k
     mul-gained-2
-    array-read-gained
+    element-copy-out-gained
     add-gained
     mul-gained-3
-    array-write-gained-2
+    element-write-gained-2
     mul-lost-2
-    array-read-lost
+    element-copy-out-lost
     add-lost
     mul-lost-3
-    array-write-lost-2
+    element-write-lost-2
     mul-found
-    array-read-found
+    element-copy-out-found
     mul-before
-    array-write-before
+    element-write-before
     contribution-requires
     add-arrived
     mul-arrived
-    array-write-arrived
+    element-write-arrived
     add-i
     loop-less
     loop-again

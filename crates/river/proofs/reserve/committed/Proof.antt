@@ -1,28 +1,30 @@
 -- `river::committed` meets its contract. Assumes nothing.
-use Prim.Native.Nat.{ℕ, suc, pred, _≤_, _<_, _-_}
+use Prim.Native.Nat.{suc, _≤_, _<_, _-_}
 use mathlib.Core.Path.{_≡_, sym, _∙_}
 use lib.ListN.{getD}
 use native.Mathlib.Omega.{arith}
-use native.Mathlib.Numerals.{sub-one}
 use borrow.Author.Needs.{needs}
 use borrow.Author.Count.{falls-down}
-use borrow.Author.Tests.{ne-eqb}
 use Rattle.laws.proofs.Arrays.{FilledDown, filled-down-start, filled-down-more}
 use Rattle.model.specs.View.{View}
 use Rattle.river.specs.Units.{unitsView}
 use Rattle.river.specs.Flow.{downstream}
-use Rattle.river.specs.Reserve.{contribution, runningTotal, committed}
-use Rattle.river.specs.Passes.{runningBefore}
-use Rattle.river.proofs.Reserves.{Below, below-of, contribution-is, running-within, committed-outlet, committed-share, splits}
+use Rattle.river.specs.Reserve.{committed}
+use Rattle.river.proofs.Reserves.{Below, below-of, committed-outlet}
+use Rattle.river.proofs.Stepping.{Share, share-of}
 use Rattle.river.proofs.reserve.committed.Statement.{statement}
 use Rattle.river.proofs.reserve.committed.Tie as tie
 
 abbrev Inv-loop : tie.InvT-loop
-Inv-loop n units f volumes₀ i₀ volumes i =
+Inv-loop n gained lost before arrived units volumes₀ i₀ volumes i =
     (i ≤ n) × FilledDown 64 0 (committed (unitsView units n)) (n) i volumes
 
 abbrev μ-loop : tie.MeasureT-loop
-μ-loop n units f volumes₀ i₀ volumes i = i
+μ-loop n gained lost before arrived units volumes₀ i₀ volumes i = i
+
+-- The view of the units that the loop passes.
+abbrev view : tie.At-loop Inv-loop μ-loop → View
+view c = unitsView (c .before .args .t1) (c .before .args .n)
 
 loop-holds : tie.Need-loop-holds Inv-loop μ-loop
 loop-holds c = (omega arith, filled-down-start 64 0 _ _)
@@ -46,11 +48,11 @@ mul-w : tie.Need-mul-w Inv-loop μ-loop
 mul-w c = omega arith
 
 onward : (c : tie.Then1 Inv-loop μ-loop)
-    → Below (unitsView (c .before .before .before .before .before .args .t1) (c .before .before .before .before .before .args .n)) (c .before .before .before .before .loop .i - 1)
+    → let at = c .before .before .before .before in
+    Below (view at) (at .loop .i - 1)
 onward c =
-    below-of (unitsView (c .before .before .before .before .before .args .t1) (c .before .before .before .before .before .args .n)) (c .before .before .before .before .before .pre .0)
-    (c .before .before .before .before .loop .i - 1)
-    (omega (arith, c .before .before .before .before .loop .inv .0, c .before .before .before .loop-test .taken))
+    let at = c .before .before .before .before in
+    below-of (view at) (at .before .pre .0) (at .loop .i - 1) (omega (arith, at .loop .inv .0, c .before .before .before .loop-test .taken))
     (omega (arith, c .if1 .taken))
 
 array-copy-out-w : tie.Need-array-copy-out-w Inv-loop μ-loop
@@ -89,49 +91,27 @@ mul-from-below-3 c = omega arith
 element-copy-out-from-below-2 : tie.Need-element-copy-out-from-below-2 Inv-loop μ-loop
 element-copy-out-from-below-2 c = omega arith
 
--- What the loop reads at the unit and at its downstream unit.
-record Read (v : View) (j volume arrived before own : ℕ) : Type 0 where
-  volume-is : volume ≡ committed v (pred (downstream v j))
-  arrived-is : arrived ≡ runningTotal v (pred (downstream v j)) (pred (downstream v j))
-  before-is : before ≡ runningTotal v (pred (downstream v j)) j
-  own-is : own ≡ contribution v j
-
-reads-of : (c : tie.After-contribution Inv-loop μ-loop)
-    → Read (unitsView (c .before .before .before .before .before .before .before .before .before .args .t1) (c .before .before .before .before .before .before .before .before .before .args .n))
-    (c .before .before .before .before .before .before .before .before .loop .i - 1)
-    (getD (c .before .before .before .before .before .before .before .before .loop .volumes)
-    (downstream (unitsView (c .before .before .before .before .before .before .before .before .before .args .t1) (c .before .before .before .before .before .before .before .before .before .args .n)) (c .before .before .before .before .before .before .before .before .loop .i - 1) - 1) 0)
-    (getD (c .before .before .before .before .before .before .before .before .before .args .t3 .arrived)
-    (downstream (unitsView (c .before .before .before .before .before .before .before .before .before .args .t1) (c .before .before .before .before .before .before .before .before .before .args .n)) (c .before .before .before .before .before .before .before .before .loop .i - 1) - 1) 0)
-    (getD (c .before .before .before .before .before .before .before .before .before .args .t3 .before) (c .before .before .before .before .before .before .before .before .loop .i - 1) 0)
+-- What the unit gets of the demand below it.
+shared : (c : tie.After-contribution Inv-loop μ-loop)
+    → let at = c .before .before .before .before .before .before .before .before in
+    let v = view at in
+    let j = at .loop .i - 1 in
+    let k = downstream v j - 1 in
+    Share v j k (getD (at .loop .volumes) k 0) (getD (at .before .args .arrived .now) k 0) (getD (at .before .args .before .now) j 0)
     (c .contribution .result)
-reads-of c =
-    let start = c .before .before .before .before .before .before .before .before .before in
-    let v = unitsView (start .args .t1) (start .args .n) in
-    let loop = c .before .before .before .before .before .before .before .before .loop in
-    let j = loop .i - 1 in
+shared c =
+    let at = c .before .before .before .before .before .before .before .before in
+    let v = view at in
+    let j = at .loop .i - 1 in
     let b = onward (c .before .before .before .before) in
-    let h : j < v .units = omega (arith, loop .inv .0, c .before .before .before .before .before .before .before .loop-test .taken) in
-    let r = start .pre .1 .1 .1 in
-    record {
-      volume-is = rw (sub-one (downstream v j)) (loop .inv .1 .done (pred (downstream v j)) (omega (arith, b .later)) (b .within));
-      arrived-is = rw (sub-one (downstream v j)) (r .each-arrived (pred (downstream v j)) (b .within));
-      before-is = r .each-before j h ∙ inner v j b;
-      own-is = omega (arith, c .contribution .ensures, start .pre .1 .0 .each j h, start .pre .1 .1 .0 .each j h, contribution-is v j);
-    }
-  where
-    inner : (v : View) (j : ℕ) → Below v j → runningBefore v j ≡ runningTotal v (pred (downstream v j)) j
-    inner v j b = rw (ne-eqb (downstream v j) 0 (omega (arith, b .next)))
+    let h : j < v .units = omega (arith, at .loop .inv .0, c .before .before .before .before .before .before .before .loop-test .taken) in
+    share-of v (at .before .pre .0) (at .before .pre .1) j h b _ _
+    (at .loop .inv .1 .done (downstream v j - 1) (omega (arith, b .later, b .next)) (omega (arith, b .within, b .next))) (c .contribution .ensures)
 
 from-below-requires : tie.Need-from-below-requires Inv-loop μ-loop
 from-below-requires c κs =
-    let start = c .before .before .before .before .before .before .before .before .before .before .before in
-    let v = unitsView (start .args .t1) (start .args .n) in
-    let j = c .before .before .before .before .before .before .before .before .before .before .loop .i - 1 in
-    let b = onward (c .before .before .before .before .before .before) in
-    let q = reads-of (c .before .before) in
-    rw (q .volume-is, q .arrived-is, q .before-is, q .own-is, sub-one (downstream v j))
-    (splits v (start .pre .0) (pred (downstream v j)) (b .within), running-within v j b)
+    let s = shared (c .before .before) in
+    (s .split, s .within)
 
 mul-volumes : tie.Need-mul-volumes Inv-loop μ-loop
 mul-volumes c = omega arith
@@ -144,20 +124,15 @@ loop-less c = falls-down _ (c .before .before .before .before .before .before .b
 
 loop-again : tie.Need-loop-again Inv-loop μ-loop
 loop-again c =
-    let start = c .before .before .before .before .before .before .before .before .before .before .before .before in
-    let v = unitsView (start .args .t1) (start .args .n) in
-    let loop = c .before .before .before .before .before .before .before .before .before .before .before .loop in
-    let j = loop .i - 1 in
-    let b = onward (c .before .before .before .before .before .before .before) in
+    let at = c .before .before .before .before .before .before .before .before .before .before .before in
+    let v = view at in
+    let j = at .loop .i - 1 in
     let t = c .before .before .before .before .before .before .before .before .before .before .loop-test .taken in
-    let h : j < v .units = omega (arith, loop .inv .0) in
-    let e : loop .i ≡ suc j = omega (arith, t) in
-    let q = reads-of (c .before .before .before) in (
+    let h : j < v .units = omega (arith, at .loop .inv .0) in
+    let e : at .loop .i ≡ suc j = omega (arith, t) in (
       omega (arith, h),
-      filled-down-more 64 0 (committed v) (v .units) j (loop .volumes) _ (omega (arith, start .pre .0 .few)) h
-          ((rw (q .volume-is, q .arrived-is, q .before-is, q .own-is, sub-one (downstream v j)) at (c .from-below .ensures))
-          ∙ sym (committed-share v (start .pre .0) j h (omega (arith, b .next))))
-          (rw e at (loop .inv .1)),
+      filled-down-more 64 0 (committed v) (v .units) j (at .loop .volumes) _ (omega (arith, at .before .pre .0 .few)) h
+          (c .from-below .ensures ∙ shared (c .before .before .before) .gets) (rw e at (at .loop .inv .1)),
     )
 
 cast-volumes : tie.Need-cast-volumes Inv-loop μ-loop
@@ -174,16 +149,15 @@ loop-less-2 c = falls-down _ (c .before .before .before .before .loop-test .take
 
 loop-again-2 : tie.Need-loop-again-2 Inv-loop μ-loop
 loop-again-2 c =
-    let start = c .before .before .before .before .before .before in
-    let v = unitsView (start .args .t1) (start .args .n) in
-    let loop = c .before .before .before .before .before .loop in
-    let j = loop .i - 1 in
+    let at = c .before .before .before .before .before in
+    let v = view at in
+    let j = at .loop .i - 1 in
     let t = c .before .before .before .before .loop-test .taken in
-    let h : j < v .units = omega (arith, loop .inv .0) in
-    let e : loop .i ≡ suc j = omega (arith, t) in (
+    let h : j < v .units = omega (arith, at .loop .inv .0) in
+    let e : at .loop .i ≡ suc j = omega (arith, t) in (
       omega (arith, h),
-      filled-down-more 64 0 (committed v) (v .units) j (loop .volumes) _ (omega (arith, start .pre .0 .few)) h
-          (sym (committed-outlet v j (omega (arith, c .before .if1 .left)))) (rw e at (loop .inv .1)),
+      filled-down-more 64 0 (committed v) (v .units) j (at .loop .volumes) _ (omega (arith, at .before .pre .0 .few)) h
+          (sym (committed-outlet v j (omega (arith, c .before .if1 .left)))) (rw e at (at .loop .inv .1)),
     )
 
 returns : tie.Need-returns Inv-loop μ-loop
