@@ -1,4 +1,4 @@
-/* Prints the availability of one unit of a book after its calls, or the refusal: availability BOOK UNIT */
+/* Prints what one unit of a book has available after its calls: availability UNIT < BOOK */
 #include <hasheqro.h>
 #include <inttypes.h>
 #include <stdio.h>
@@ -6,17 +6,11 @@
 
 int main(int count, char **words) {
     static uint8_t book[65537];
-    FILE *file = count == 3 ? fopen(words[1], "rb") : NULL;
-    size_t length = file ? fread(book, 1, sizeof book, file) : 0;
-    if (!file || length > 65536) {
-        fputs("usage: availability BOOK UNIT, with a book of at most 65536 bytes\n", stderr);
-        return 2;
-    }
+    size_t length = fread(book, 1, sizeof book, stdin);
     struct hasheqro_table table = hasheqro_figures(book, length);
-    uint64_t unit = strtoull(words[2], NULL, 10);
-    if (table.number != 0)
-        printf("refused %d at %" PRIu64 "\n", table.number, table.place);
-    if (unit >= 1 && unit <= table.unit_count)
-        printf("unit %" PRIu64 " has %" PRId64 " available\n", unit, table.units[unit - 1].availability);
-    return !table.accepted;
+    uint64_t unit = count == 2 ? strtoull(words[1], NULL, 10) : 0;
+    if (length > 65536 || !table.accepted || unit < 1 || unit > table.unit_count)
+        return fputs("no such unit, or no book that is accepted\n", stderr), 1;
+    printf("unit %" PRIu64 " has %" PRId64 " available\n", unit, table.units[unit - 1].availability);
+    return 0;
 }
