@@ -13,7 +13,7 @@ use Rattle.model.specs.declared.Title.the-variants.{UnitWithdrawal, AquiferWith
 use Rattle.model.specs.declared.Balance.{Balance}
 use Rattle.model.specs.Fresh.{emptyUnit, emptyAquifer}
 use Rattle.model.specs.View.{View}
-use Rattle.titles.specs.Adds.{adds, returned, titled}
+use Rattle.titles.specs.Adds.{adds, returned}
 use Rattle.titles.specs.declared.Slot.the-variants.{Extraction, Exports, Imports, Returns, WellExtraction}
 use Rattle.effect.specs.Effect.{unwithdrawn, unexported, unimported, unpumped, changeUnit, changeWell}
 use Rattle.effect.specs.Cancelled.{loweredUnit, loweredAquifer, loweredUnits, loweredWells, Held, UnitsHeld, WellsHeld, Takable}

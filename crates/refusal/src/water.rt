@@ -110,7 +110,7 @@ fn giving_aquifer(t: Title) -> u8
     }
 }
 
-// No water for a title that is in: in the outlet basin of the unit that gives, or in the aquifer that gives.
+// No water for a title that is in, among n units and m aquifers: in the outlet basin of the unit that gives, or in the aquifer that gives.
 pub fn no_water(units: [Unit; 64], n: usize, aquifers: [Aquifer; 32], m: usize, t: Title) -> bool
     requires { ⌜ Ready (unitsView units n) × WellsReady (aquifersView aquifers m) × Named (entriesView units n aquifers m 0) t ⌝ }
     ensures { λ r. ⌜ r ≡ grants.noWater (entriesView units n aquifers m 0) t ⌝ }

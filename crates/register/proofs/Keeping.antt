@@ -18,8 +18,8 @@ use Rattle.register.specs.Cancel.{cancelRefusal}
 use Rattle.register.specs.Calls.{callReply, callNumber}
 use Rattle.register.specs.declared.Reply.{Reply}
 use Rattle.register.proofs.Replies.{reply-unsound}
-use Rattle.register.proofs.Staying.{accepted-sound, not-refused, Given, grant-given, given-reply}
-use Rattle.register.proofs.Leaving.{reply-fault, cancel-sound, Released, cancel-released, released-reply}
+use Rattle.register.proofs.Staying.{accepted-sound, not-refused, grant-given, given-reply}
+use Rattle.register.proofs.Leaving.{reply-fault, cancel-sound, cancel-released, released-reply}
 
 -- 0.
 pub call-unsound : (b : Balance) (c : Call) → sound (viewOf b) ≡ false → replied (number 0) b b 0 ≡ callReply b c

@@ -1,6 +1,6 @@
 -- The arrays that a decision tries: with a title in, and without one. Assumes nothing.
 use Prim.Native.Nat.{ℕ, pred, _≤_, _<_}
-use mathlib.Core.Path.{_≡_, sym, ap, subst⁻¹, _∙_}
+use mathlib.Core.Path.{_≡_, ap, subst⁻¹, _∙_}
 use mathlib.Core.Bool.{true, false}
 use mathlib.Core.List.{List}
 use lib.Signed.{nonNeg}

@@ -11,11 +11,9 @@ ghost use Rattle.register.specs.Cancel as cancels;
 ghost use Rattle.register.specs.Calls as calls;
 use crate::outcome::sized;
 use model::Answer;
-use model::Aquifer;
 use model::Balance;
 use model::Call;
 use model::Found;
-use model::Place;
 use model::Title;
 use model::Unit;
 

@@ -1,4 +1,4 @@
--- `register::either_past` meets its contract. Assumes nothing.
+-- `refusal::either_past` meets its contract. Assumes nothing.
 use mathlib.Core.Path.{sym, _∙_}
 use Rattle.laws.proofs.Chain.{or-yes, or-on}
 use borrow.Author.Needs.{needs}

@@ -1,4 +1,4 @@
--- `register::is_downstream` meets its contract. Assumes nothing.
+-- `refusal::is_downstream` meets its contract. Assumes nothing.
 use mathlib.Core.Path.{_∙_}
 use native.Mathlib.Numerals.{sub-one}
 use borrow.Author.Needs.{needs}

@@ -1,4 +1,4 @@
--- `register::volume_number` meets its contract. Assumes nothing.
+-- `refusal::volume_number` meets its contract. Assumes nothing.
 use mathlib.Core.Path.{refl, sym, _∙_}
 use borrow.Author.Tests.{le-leb, lt-leb}
 use Rattle.laws.proofs.Chain.{hit, miss}

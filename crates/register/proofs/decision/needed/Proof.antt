@@ -1,6 +1,6 @@
 -- `register::needed` meets its contract. Assumes nothing.
 use mathlib.Core.Path.{sym, ap, subst⁻¹, _∙_}
-use mathlib.Core.Bool.{Bool, not}
+use mathlib.Core.Bool.{not}
 use mathlib.Core.List.{List}
 use lib.Signed.{nonNeg}
 use borrow.Author.Needs.{needs}
