@@ -142,7 +142,7 @@ fn run(who: Contestant, book: &[u8]) -> u64 {
         Contestant::Proved => proved::run(book),
         Contestant::Plain => run_plain(book).titles.len() as u64,
         Contestant::Fast => run_fast(book).title_count as u64,
-        Contestant::Untested => run_untested(book).title_count as u64,
+        Contestant::Untested => run_by(fast::apply_untested, book).title_count as u64,
     }
 }
 
@@ -152,17 +152,13 @@ fn run_plain(book: &[u8]) -> register::Balance {
 }
 
 fn run_fast(book: &[u8]) -> fast::State {
-    let (mut state, end) = fast::open(book).expect("the description is accepted");
-    fast::run_calls(&mut state, book, end, |reply| {
-        black_box(reply);
-    })
-    .expect("every call record is whole");
-    state
+    run_by(fast::apply, book)
 }
 
-fn run_untested(book: &[u8]) -> fast::State {
+/// Opens a book and applies its calls by one of the fast model's ways.
+fn run_by(apply: impl Fn(&mut fast::State, &Call) -> register::Reply, book: &[u8]) -> fast::State {
     let (mut state, end) = fast::open(book).expect("the description is accepted");
-    fast::run_calls_untested(&mut state, book, end, |reply| {
+    fast::run_by(apply, &mut state, book, end, |reply| {
         black_box(reply);
     })
     .expect("every call record is whole");

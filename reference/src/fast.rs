@@ -1013,18 +1013,9 @@ pub fn run_calls(
     run_by(apply, state, book, from, each)
 }
 
-/// The same without the test for refusal 0 at every call: for a state that isn't faulty, on trust
-/// that no call makes it so.
-pub fn run_calls_untested(
-    state: &mut State,
-    book: &[u8],
-    from: usize,
-    each: impl FnMut(Reply),
-) -> Result<(), Refusal> {
-    run_by(apply_untested, state, book, from, each)
-}
-
-fn run_by(
+/// The same, each call applied by `apply` or, for a state that isn't faulty and on trust that no call
+/// makes it so, by `apply_untested`.
+pub fn run_by(
     apply: impl Fn(&mut State, &Call) -> Reply,
     state: &mut State,
     book: &[u8],

@@ -1,16 +1,14 @@
 -- The steps of a grant, by the numbers of the refusals; 0 where none applies. Assumes nothing.
 use Prim.Native.Nat.{ℕ, _+_}
 use mathlib.Core.Bool.{Bool, cond, _&&_}
-use mathlib.Core.List.{List}
+use mathlib.Core.List.{List, []}
 use lib.Dec.{eqb, leb, ltb}
-use lib.ListN.{getD}
 use Rattle.model.specs.declared.Unit.{Unit}
 use Rattle.model.specs.declared.Aquifer.{Aquifer}
 use Rattle.model.specs.declared.Title.{Title}
 use Rattle.model.specs.declared.Title.the-variants.{UnitWithdrawal, AquiferWithdrawal, UnitTransfer, AquiferTransfer}
-use Rattle.model.specs.Fresh.{emptyUnit, emptyAquifer, emptyPlace}
 use Rattle.model.specs.View.{View}
-use Rattle.basin.specs.Sound.{exists, isVolume}
+use Rattle.basin.specs.Sound.{exists, isVolume, partsView}
 use Rattle.refusal.specs.Grant.{overfull, downstreamTransfer}
 
 -- 14, 15 or 16.
@@ -45,15 +43,7 @@ givingAquifer (AquiferTransfer a u x) = a
 
 -- The view of units and aquifers without titles, with so many title numbers given.
 abbrev pub entriesView : List Unit → ℕ → List Aquifer → ℕ → ℕ → View
-entriesView us n ws m given =
-    record {
-      units = n;
-      unit = λ k. getD us k emptyUnit;
-      aquifers = m;
-      aquifer = λ k. getD ws k emptyAquifer;
-      given = given;
-      place = λ k. emptyPlace;
-    }
+entriesView us n ws m given = partsView us n ws m [] given
 
 -- A unit of an outlet's basin with a negative flow or a negative availability, by what is gained, lost and committed at it and above it.
 abbrev pub wantingAmounts : ℕ → ℕ → ℕ → ℕ → ℕ → Bool
