@@ -6,6 +6,7 @@ ghost use Rattle.basin.specs.Sound as sounds;
 use crate::entries::aquifer_sound;
 use crate::entries::unit_sound;
 use model::Aquifer;
+use model::Balance;
 use model::Unit;
 
 // The titles of a unit do not together exceed the entries that they went into.
@@ -26,12 +27,12 @@ fn unit_covered(u: Unit, extraction: u64, exports: u64, imports: u64, returns: u
 
 // Every unit is sound, and no entry of it is exceeded by its titles.
 pub fn units_hold<'a>(
-    units: [Unit; 64],
+    units: [Unit; Balance::UNITS],
     n: usize,
-    extraction: &'a [u64; 64],
-    exports: &'a [u64; 64],
-    imports: &'a [u64; 64],
-    returns: &'a [u64; 64],
+    extraction: &'a [u64; Balance::UNITS],
+    exports: &'a [u64; Balance::UNITS],
+    imports: &'a [u64; Balance::UNITS],
+    returns: &'a [u64; Balance::UNITS],
 ) -> bool
     requires { ⌜ n ≤ 64 ⌝ }
     ensures { λ r. ⌜ r ≡ every n
@@ -52,7 +53,11 @@ pub fn units_hold<'a>(
 }
 
 // Every aquifer is sound, and its extraction is not exceeded by its titles.
-pub fn aquifers_hold(aquifers: [Aquifer; 32], n: usize, extraction: &[u64; 64]) -> bool
+pub fn aquifers_hold(
+    aquifers: [Aquifer; Balance::AQUIFERS],
+    n: usize,
+    extraction: &[u64; Balance::UNITS],
+) -> bool
     requires { ⌜ n ≤ 32 ⌝ }
     ensures { λ r. ⌜ r ≡ every n (sounds.aquiferHolds aquifers (now (extraction .entry))) ⌝ }
 {

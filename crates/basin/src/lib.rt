@@ -8,6 +8,7 @@ mod test;
 use figures::AquiferFigures;
 use figures::UnitFigures;
 use model::Answer;
+use model::Balance;
 pub use places::exists;
 pub use places::is_volume;
 pub use test::sound;
@@ -15,6 +16,6 @@ pub use test::sound;
 // The reply of reading the figures: the answer, and the figures of each unit and aquifer under its number less one.
 pub struct Figures {
     pub answer: Answer,
-    pub units: [UnitFigures; 64],
-    pub aquifers: [AquiferFigures; 32],
+    pub units: [UnitFigures; Balance::UNITS],
+    pub aquifers: [AquiferFigures; Balance::AQUIFERS],
 }

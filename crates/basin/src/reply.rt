@@ -12,7 +12,7 @@ use model::Answer;
 use model::Balance;
 
 // 0 in every place for units.
-fn no_units() -> [UnitFigures; 64]
+fn no_units() -> [UnitFigures; Balance::UNITS]
     ensures { λ r. ⌜ r ≡ replicate 64 noUnitFigures ⌝ }
 {
     let none = UnitFigures {
@@ -21,28 +21,28 @@ fn no_units() -> [UnitFigures; 64]
         reserve: 0,
         availability: 0,
     };
-    [none; 64]
+    [none; Balance::UNITS]
 }
 
 // 0 in every place for aquifers.
-fn no_aquifers() -> [AquiferFigures; 32]
+fn no_aquifers() -> [AquiferFigures; Balance::AQUIFERS]
     ensures { λ r. ⌜ r ≡ replicate 32 noAquiferFigures ⌝ }
 {
     let none = AquiferFigures {
         recharge: 0,
         availability: 0,
     };
-    [none; 32]
+    [none; Balance::AQUIFERS]
 }
 
 // The figures of every unit and aquifer. A balance that is not sound is refused with 0, and with 0 in every figure.
 pub fn figures(b: Balance) -> Figures
     ensures { λ r. ⌜ r ≡ replies.figuresReply (viewOf b) ⌝ }
 {
-    let mut gained = [0u64; 64];
-    let mut lost = [0u64; 64];
-    let mut before = [0u64; 64];
-    let mut arrived = [0u64; 64];
+    let mut gained = [0u64; Balance::UNITS];
+    let mut lost = [0u64; Balance::UNITS];
+    let mut before = [0u64; Balance::UNITS];
+    let mut arrived = [0u64; Balance::UNITS];
     if !tested(b, &mut gained, &mut lost, &mut before, &mut arrived) {
         return Figures {
             answer: Answer::Refused(0),

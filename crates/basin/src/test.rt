@@ -31,21 +31,21 @@ fn counts_sound(units: usize, aquifers: usize, given: usize) -> bool
 // Every title in force is sound; every aquifer and every unit is sound, and none of its entries is exceeded by its titles. One walk over
 // the titles tests each and adds it up.
 fn entries_hold(
-    units: [Unit; 64],
+    units: [Unit; Balance::UNITS],
     n: usize,
-    aquifers: [Aquifer; 32],
+    aquifers: [Aquifer; Balance::AQUIFERS],
     m: usize,
-    titles: [Place; 256],
+    titles: [Place; Balance::TITLES],
     given: usize,
 ) -> bool
     requires { ⌜ (n ≤ 64) × (m ≤ 32) × (given ≤ 256) ⌝ }
     ensures { λ r. ⌜ r ≡ sounds.entriesHold (sounds.partsView units n aquifers m titles given) ⌝ }
 {
-    let mut extraction = [0u64; 64];
-    let mut exports = [0u64; 64];
-    let mut imports = [0u64; 64];
-    let mut returns = [0u64; 64];
-    let mut wells = [0u64; 64];
+    let mut extraction = [0u64; Balance::UNITS];
+    let mut exports = [0u64; Balance::UNITS];
+    let mut imports = [0u64; Balance::UNITS];
+    let mut returns = [0u64; Balance::UNITS];
+    let mut wells = [0u64; Balance::UNITS];
     let mut k = 0;
     while k < given {
         let p = titles[k];
@@ -73,7 +73,7 @@ fn entries_hold(
 }
 
 // No more is lost than gained at any unit.
-fn flowing<'a>(n: usize, gained: &'a [u64; 64], lost: &'a [u64; 64]) -> bool
+fn flowing<'a>(n: usize, gained: &'a [u64; Balance::UNITS], lost: &'a [u64; Balance::UNITS]) -> bool
     requires { ⌜ n ≤ 64 ⌝ }
     ensures { λ r. ⌜ r ≡ sounds.balanced n (now (gained .entry)) (now (lost .entry)) ⌝ }
 {
@@ -91,10 +91,10 @@ fn flowing<'a>(n: usize, gained: &'a [u64; 64], lost: &'a [u64; 64]) -> bool
 // balance.
 pub fn tested(
     b: Balance,
-    gained: &mut [u64; 64],
-    lost: &mut [u64; 64],
-    before: &mut [u64; 64],
-    arrived: &mut [u64; 64],
+    gained: &mut [u64; Balance::UNITS],
+    lost: &mut [u64; Balance::UNITS],
+    before: &mut [u64; Balance::UNITS],
+    arrived: &mut [u64; Balance::UNITS],
 ) -> bool
     requires { ⌜ Clear (now gained) (now lost) (now before) (now arrived) ⌝ }
     ensures { λ r. ⌜ r ≡ sounds.sound (viewOf b) ⌝ }
@@ -121,9 +121,9 @@ pub fn tested(
 pub fn sound(b: Balance) -> bool
     ensures { λ r. ⌜ r ≡ sounds.sound (viewOf b) ⌝ }
 {
-    let mut gained = [0u64; 64];
-    let mut lost = [0u64; 64];
-    let mut before = [0u64; 64];
-    let mut arrived = [0u64; 64];
+    let mut gained = [0u64; Balance::UNITS];
+    let mut lost = [0u64; Balance::UNITS];
+    let mut before = [0u64; Balance::UNITS];
+    let mut arrived = [0u64; Balance::UNITS];
     tested(b, &mut gained, &mut lost, &mut before, &mut arrived)
 }

@@ -21,8 +21,8 @@ pub struct Table {
     pub place: u64,
     pub unit_count: u64,
     pub aquifer_count: u64,
-    pub units: [UnitFigures; 64],
-    pub aquifers: [AquiferFigures; 32],
+    pub units: [UnitFigures; Balance::UNITS],
+    pub aquifers: [AquiferFigures; Balance::AQUIFERS],
 }
 
 // What `balance` prints for a book.

@@ -23,7 +23,12 @@ fn in_force(title: Title) -> Place
 }
 
 // The units with a withdrawal and its return at the unit of an index.
-fn withdrawn_at(mut units: [Unit; 64], k: usize, volume: u32, back: u32) -> [Unit; 64]
+fn withdrawn_at(
+    mut units: [Unit; Balance::UNITS],
+    k: usize,
+    volume: u32,
+    back: u32,
+) -> [Unit; Balance::UNITS]
     requires { ⌜ k < 64 ⌝ }
     requires { ⌜ (getD units k emptyUnit .extraction + volume ≤ 10000000) × (getD units k emptyUnit .returns + back ≤ 10000000) ⌝ }
     ensures { λ r. ⌜ r ≡ set units k (effects.withdrawn (getD units k emptyUnit) volume back) ⌝ }
@@ -36,7 +41,7 @@ fn withdrawn_at(mut units: [Unit; 64], k: usize, volume: u32, back: u32) -> [Uni
 }
 
 // The units with an export at the unit of an index.
-fn exported_at(mut units: [Unit; 64], k: usize, volume: u32) -> [Unit; 64]
+fn exported_at(mut units: [Unit; Balance::UNITS], k: usize, volume: u32) -> [Unit; Balance::UNITS]
     requires { ⌜ (k < 64) × (getD units k emptyUnit .exports + volume ≤ 10000000) ⌝ }
     ensures { λ r. ⌜ r ≡ set units k (effects.exported (getD units k emptyUnit) volume) ⌝ }
 {
@@ -47,7 +52,7 @@ fn exported_at(mut units: [Unit; 64], k: usize, volume: u32) -> [Unit; 64]
 }
 
 // The units with an import at the unit of an index.
-fn imported_at(mut units: [Unit; 64], k: usize, volume: u32) -> [Unit; 64]
+fn imported_at(mut units: [Unit; Balance::UNITS], k: usize, volume: u32) -> [Unit; Balance::UNITS]
     requires { ⌜ (k < 64) × (getD units k emptyUnit .imports + volume ≤ 10000000) ⌝ }
     ensures { λ r. ⌜ r ≡ set units k (effects.imported (getD units k emptyUnit) volume) ⌝ }
 {
@@ -58,7 +63,11 @@ fn imported_at(mut units: [Unit; 64], k: usize, volume: u32) -> [Unit; 64]
 }
 
 // The aquifers with an extraction at the aquifer of an index.
-fn pumped_at(mut aquifers: [Aquifer; 32], k: usize, volume: u32) -> [Aquifer; 32]
+fn pumped_at(
+    mut aquifers: [Aquifer; Balance::AQUIFERS],
+    k: usize,
+    volume: u32,
+) -> [Aquifer; Balance::AQUIFERS]
     requires { ⌜ (k < 32) × (getD aquifers k emptyAquifer .extraction + volume ≤ 10000000) ⌝ }
     ensures { λ r. ⌜ r ≡ set aquifers k (effects.pumped (getD aquifers k emptyAquifer) volume) ⌝ }
 {
@@ -69,7 +78,7 @@ fn pumped_at(mut aquifers: [Aquifer; 32], k: usize, volume: u32) -> [Aquifer; 32
 }
 
 // The units with a title in.
-pub fn posted_units(units: [Unit; 64], t: Title) -> [Unit; 64]
+pub fn posted_units(units: [Unit; Balance::UNITS], t: Title) -> [Unit; Balance::UNITS]
     requires { ⌜ UnitsFit t units ⌝ }
     ensures { λ r. ⌜ r ≡ grants.postedUnits t units ⌝ }
 {
@@ -101,7 +110,10 @@ pub fn posted_units(units: [Unit; 64], t: Title) -> [Unit; 64]
 }
 
 // The aquifers with a title in.
-pub fn posted_wells(aquifers: [Aquifer; 32], t: Title) -> [Aquifer; 32]
+pub fn posted_wells(
+    aquifers: [Aquifer; Balance::AQUIFERS],
+    t: Title,
+) -> [Aquifer; Balance::AQUIFERS]
     requires { ⌜ WellsFit t aquifers ⌝ }
     ensures { λ r. ⌜ r ≡ grants.postedWells t aquifers ⌝ }
 {

@@ -13,7 +13,12 @@ use model::Title;
 use model::Unit;
 
 // The units without a withdrawal and its return at the unit of an index.
-fn unwithdrawn_at(mut units: [Unit; 64], k: usize, volume: u32, back: u32) -> [Unit; 64]
+fn unwithdrawn_at(
+    mut units: [Unit; Balance::UNITS],
+    k: usize,
+    volume: u32,
+    back: u32,
+) -> [Unit; Balance::UNITS]
     requires { ⌜ k < 64 ⌝ }
     requires { ⌜ (volume ≤ getD units k emptyUnit .extraction) × (back ≤ getD units k emptyUnit .returns) ⌝ }
     ensures { λ r. ⌜ r ≡ set units k (effects.unwithdrawn (getD units k emptyUnit) volume back) ⌝ }
@@ -26,7 +31,7 @@ fn unwithdrawn_at(mut units: [Unit; 64], k: usize, volume: u32, back: u32) -> [U
 }
 
 // The units without an export at the unit of an index.
-fn unexported_at(mut units: [Unit; 64], k: usize, volume: u32) -> [Unit; 64]
+fn unexported_at(mut units: [Unit; Balance::UNITS], k: usize, volume: u32) -> [Unit; Balance::UNITS]
     requires { ⌜ (k < 64) × (volume ≤ getD units k emptyUnit .exports) ⌝ }
     ensures { λ r. ⌜ r ≡ set units k (effects.unexported (getD units k emptyUnit) volume) ⌝ }
 {
@@ -37,7 +42,7 @@ fn unexported_at(mut units: [Unit; 64], k: usize, volume: u32) -> [Unit; 64]
 }
 
 // The units without an import at the unit of an index.
-fn unimported_at(mut units: [Unit; 64], k: usize, volume: u32) -> [Unit; 64]
+fn unimported_at(mut units: [Unit; Balance::UNITS], k: usize, volume: u32) -> [Unit; Balance::UNITS]
     requires { ⌜ (k < 64) × (volume ≤ getD units k emptyUnit .imports) ⌝ }
     ensures { λ r. ⌜ r ≡ set units k (effects.unimported (getD units k emptyUnit) volume) ⌝ }
 {
@@ -48,7 +53,11 @@ fn unimported_at(mut units: [Unit; 64], k: usize, volume: u32) -> [Unit; 64]
 }
 
 // The aquifers without an extraction at the aquifer of an index.
-fn unpumped_at(mut aquifers: [Aquifer; 32], k: usize, volume: u32) -> [Aquifer; 32]
+fn unpumped_at(
+    mut aquifers: [Aquifer; Balance::AQUIFERS],
+    k: usize,
+    volume: u32,
+) -> [Aquifer; Balance::AQUIFERS]
     requires { ⌜ (k < 32) × (volume ≤ getD aquifers k emptyAquifer .extraction) ⌝ }
     ensures { λ r. ⌜ r ≡ set aquifers k (effects.unpumped (getD aquifers k emptyAquifer) volume) ⌝ }
 {
@@ -59,7 +68,7 @@ fn unpumped_at(mut aquifers: [Aquifer; 32], k: usize, volume: u32) -> [Aquifer; 
 }
 
 // The units without what a title added.
-pub fn lowered_units(units: [Unit; 64], t: Title) -> [Unit; 64]
+pub fn lowered_units(units: [Unit; Balance::UNITS], t: Title) -> [Unit; Balance::UNITS]
     requires { ⌜ cancels.UnitsHeld t units ⌝ }
     ensures { λ r. ⌜ r ≡ cancels.loweredUnits t units ⌝ }
 {
@@ -91,7 +100,7 @@ pub fn lowered_units(units: [Unit; 64], t: Title) -> [Unit; 64]
 }
 
 // The aquifers without what a title added.
-fn lowered_wells(aquifers: [Aquifer; 32], t: Title) -> [Aquifer; 32]
+fn lowered_wells(aquifers: [Aquifer; Balance::AQUIFERS], t: Title) -> [Aquifer; Balance::AQUIFERS]
     requires { ⌜ cancels.WellsHeld t aquifers ⌝ }
     ensures { λ r. ⌜ r ≡ cancels.loweredWells t aquifers ⌝ }
 {

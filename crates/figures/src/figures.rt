@@ -10,6 +10,7 @@ ghost use Rattle.figures.specs.Figures.{figuresFrom, aquifersView};
 use crate::AquiferFigures;
 use crate::UnitFigures;
 use model::Aquifer;
+use model::Balance;
 use model::Unit;
 use river::contribution;
 use river::from_below;
@@ -35,13 +36,13 @@ fn of_unit(u: Unit, gained: u64, lost: u64, arrived: u64, committed: u64) -> Uni
 // The figures of each of n units, from what the forward pass has left. Backward over the units: an outlet's committed volume is its
 // commitment, another unit's is its share of the demand below.
 pub fn unit_figures<'a>(
-    units: [Unit; 64],
+    units: [Unit; Balance::UNITS],
     n: usize,
-    gained: &'a [u64; 64],
-    lost: &'a [u64; 64],
-    before: &'a [u64; 64],
-    arrived: &'a [u64; 64],
-) -> [UnitFigures; 64]
+    gained: &'a [u64; Balance::UNITS],
+    lost: &'a [u64; Balance::UNITS],
+    before: &'a [u64; Balance::UNITS],
+    arrived: &'a [u64; Balance::UNITS],
+) -> [UnitFigures; Balance::UNITS]
     requires { ⌜ Ready (unitsView units n) ⌝ }
     requires { ⌜ Flows (unitsView units n) (now gained) (now lost) (now before) (now arrived) ⌝ }
     ensures { λ r. ⌜ r ≡ figures.allUnitFigures (unitsView units n) ⌝ }
@@ -52,7 +53,7 @@ pub fn unit_figures<'a>(
         reserve: 0,
         availability: 0,
     };
-    let mut all = [none; 64];
+    let mut all = [none; Balance::UNITS];
     let mut i = n;
     while 0 < i {
         i -= 1;
@@ -91,7 +92,10 @@ pub fn of_aquifer(a: Aquifer) -> AquiferFigures
 }
 
 // The figures of each of n aquifers.
-pub fn aquifer_figures(aquifers: [Aquifer; 32], n: usize) -> [AquiferFigures; 32]
+pub fn aquifer_figures(
+    aquifers: [Aquifer; Balance::AQUIFERS],
+    n: usize,
+) -> [AquiferFigures; Balance::AQUIFERS]
     requires { ⌜ figures.WellsReady (aquifersView aquifers n) ⌝ }
     ensures { λ r. ⌜ r ≡ figures.allAquiferFigures (aquifersView aquifers n) ⌝ }
 {
@@ -99,7 +103,7 @@ pub fn aquifer_figures(aquifers: [Aquifer; 32], n: usize) -> [AquiferFigures; 32
         recharge: 0,
         availability: 0,
     };
-    let mut all = [none; 32];
+    let mut all = [none; Balance::AQUIFERS];
     let mut i = 0;
     while i < n {
         let a = aquifers[i];

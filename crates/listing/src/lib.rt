@@ -21,7 +21,12 @@ use record::CallAt;
 use report::ROOM;
 
 // The lines of the first n units.
-fn unit_lines(out: &mut [u8; ROOM], at: usize, units: [UnitFigures; 64], n: usize) -> usize
+fn unit_lines(
+    out: &mut [u8; ROOM],
+    at: usize,
+    units: [UnitFigures; Balance::UNITS],
+    n: usize,
+) -> usize
     requires { ⌜ (n ≤ 64) × (at + 8192 ≤ 1064960) ⌝ }
     ensures { λ r. ⌜ Written 8192 (now (out .entry)) at (text.linesOf n (λ k. text.unitText (getD units k noUnitFigures) k)) (now (out .exit)) r ⌝ }
 {
@@ -54,7 +59,12 @@ fn unit_line(out: &mut [u8; ROOM], at: usize, k: usize, f: UnitFigures) -> usize
 }
 
 // The lines of the first n aquifers.
-fn aquifer_lines(out: &mut [u8; ROOM], at: usize, aquifers: [AquiferFigures; 32], n: usize) -> usize
+fn aquifer_lines(
+    out: &mut [u8; ROOM],
+    at: usize,
+    aquifers: [AquiferFigures; Balance::AQUIFERS],
+    n: usize,
+) -> usize
     requires { ⌜ (n ≤ 32) × (at + 4096 ≤ 1064960) ⌝ }
     ensures { λ r. ⌜ Written 4096 (now (out .entry)) at (text.linesOf n (λ k. text.aquiferText (getD aquifers k noAquiferFigures) k)) (now (out .exit)) r ⌝ }
 {

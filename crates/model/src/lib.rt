@@ -41,11 +41,11 @@ pub struct Place {
 
 // Units and aquifers are numbered from 1 in file order: number n stands at index n - 1. So do titles, of which `given` numbers were given.
 pub struct Balance {
-    pub units: [Unit; 64],
+    pub units: [Unit; Balance::UNITS],
     pub unit_count: usize,
-    pub aquifers: [Aquifer; 32],
+    pub aquifers: [Aquifer; Balance::AQUIFERS],
     pub aquifer_count: usize,
-    pub titles: [Place; 256],
+    pub titles: [Place; Balance::TITLES],
     pub given: usize,
 }
 

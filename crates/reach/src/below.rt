@@ -5,14 +5,15 @@ ghost use Rattle.river.specs.Flow.{Ready};
 ghost use Rattle.river.specs.Units.{unitsView};
 ghost use Rattle.reach.specs.Reach.{liesBelow};
 ghost use Rattle.reach.specs.Passes.{DownstreamNumbers, TreeNumbers, listed, belowBy};
+use model::Balance;
 use model::Unit;
 
 // The downstream number of each unit, and 0 in the unused places.
-pub fn downs(units: [Unit; 64], n: usize) -> [u8; 64]
+pub fn downs(units: [Unit; Balance::UNITS], n: usize) -> [u8; Balance::UNITS]
     requires { ⌜ n ≤ 64 ⌝ }
     ensures { λ r. ⌜ DownstreamNumbers (unitsView units n) r ⌝ }
 {
-    let mut down = [0u8; 64];
+    let mut down = [0u8; Balance::UNITS];
     let mut i = 0;
     while i < n {
         let u = units[i];
@@ -23,7 +24,7 @@ pub fn downs(units: [Unit; 64], n: usize) -> [u8; 64]
 }
 
 // Unit w lies below u when it is u's downstream unit or lies below that one. The distance from the unit number to 64 falls.
-fn below_from(down: &[u8; 64], u: usize, w: usize) -> bool
+fn below_from(down: &[u8; Balance::UNITS], u: usize, w: usize) -> bool
     requires { ⌜ TreeNumbers (listed (now down)) 64 × (u < 64) ⌝ }
     ensures { λ r. ⌜ r ≡ belowBy (listed (now (down .entry))) 64 u w ⌝ }
 {
@@ -39,7 +40,7 @@ fn below_from(down: &[u8; 64], u: usize, w: usize) -> bool
 }
 
 // Whether the unit at index w lies below the unit at index u.
-pub fn lies_below(units: [Unit; 64], n: usize, u: usize, w: usize) -> bool
+pub fn lies_below(units: [Unit; Balance::UNITS], n: usize, u: usize, w: usize) -> bool
     requires { ⌜ Ready (unitsView units n) × (u < n) ⌝ }
     ensures { λ r. ⌜ r ≡ liesBelow (unitsView units n) u w ⌝ }
 {

@@ -12,6 +12,7 @@ ghost use Rattle.refusal.specs.Steps.{entriesView};
 use basin::exists;
 use basin::is_volume;
 use model::Aquifer;
+use model::Balance;
 use model::Title;
 use model::Unit;
 
@@ -50,7 +51,7 @@ fn volume_number(given: usize, volume: u32, over: bool) -> u8
 
 // GU: 12 to 16.
 fn withdrawal_number(
-    units: [Unit; 64],
+    units: [Unit; Balance::UNITS],
     n: usize,
     given: usize,
     unit: u8,
@@ -78,7 +79,13 @@ fn withdrawal_number(
 }
 
 // GA: 12, 14 to 16.
-fn pumping_number(aquifers: [Aquifer; 32], m: usize, given: usize, aquifer: u8, volume: u32) -> u8
+fn pumping_number(
+    aquifers: [Aquifer; Balance::AQUIFERS],
+    m: usize,
+    given: usize,
+    aquifer: u8,
+    volume: u32,
+) -> u8
     requires { ⌜ m ≤ 32 ⌝ }
     ensures { λ r. ⌜ r ≡ steps.earlyNumber (entriesView [] 0 aquifers m given) (AquiferWithdrawal aquifer volume) ⌝ }
 {
@@ -93,9 +100,9 @@ fn pumping_number(aquifers: [Aquifer; 32], m: usize, given: usize, aquifer: u8, 
 
 // TA: 12, 14 to 16.
 fn bringing_number(
-    units: [Unit; 64],
+    units: [Unit; Balance::UNITS],
     n: usize,
-    aquifers: [Aquifer; 32],
+    aquifers: [Aquifer; Balance::AQUIFERS],
     m: usize,
     given: usize,
     aquifer: u8,
@@ -119,7 +126,7 @@ fn bringing_number(
 }
 
 // 18 same unit, or the receiver lies below the giver.
-fn is_downstream(units: [Unit; 64], n: usize, from: u8, to: u8) -> bool
+fn is_downstream(units: [Unit; Balance::UNITS], n: usize, from: u8, to: u8) -> bool
     requires { ⌜ Ready (unitsView units n) × (0 < from) × (from ≤ n) × (0 < to) ⌝ }
     ensures { λ r. ⌜ r ≡ grants.downstreamTransfer (unitsView units n) from to ⌝ }
 {
@@ -132,7 +139,14 @@ fn is_downstream(units: [Unit; 64], n: usize, from: u8, to: u8) -> bool
 }
 
 // TU: 12, 18, 14 to 16.
-fn transfer_number(units: [Unit; 64], n: usize, given: usize, from: u8, to: u8, volume: u32) -> u8
+fn transfer_number(
+    units: [Unit; Balance::UNITS],
+    n: usize,
+    given: usize,
+    from: u8,
+    to: u8,
+    volume: u32,
+) -> u8
     requires { ⌜ Ready (unitsView units n) ⌝ }
     ensures { λ r. ⌜ r ≡ steps.earlyNumber (entriesView units n [] 0 given) (UnitTransfer from to volume) ⌝ }
 {
@@ -154,9 +168,9 @@ fn transfer_number(units: [Unit; 64], n: usize, given: usize, from: u8, to: u8, 
 
 // The number under which a grant is refused before its water is looked at, of each kind of title.
 pub fn early(
-    units: [Unit; 64],
+    units: [Unit; Balance::UNITS],
     n: usize,
-    aquifers: [Aquifer; 32],
+    aquifers: [Aquifer; Balance::AQUIFERS],
     m: usize,
     given: usize,
     t: Title,

@@ -13,6 +13,7 @@ ghost use Rattle.effect.specs.Granted.{Named};
 ghost use Rattle.refusal.specs.Steps as steps;
 ghost use Rattle.refusal.specs.Steps.{entriesView};
 use model::Aquifer;
+use model::Balance;
 use model::Title;
 use model::Unit;
 
@@ -28,14 +29,14 @@ fn wanting(end: usize, outlet: usize, gained: u64, lost: u64, committed: u64) ->
 }
 
 // The outlet of the unit at an index, or some unit that drains there, has a negative flow or a negative availability.
-fn dry(units: [Unit; 64], n: usize, j: usize) -> bool
+fn dry(units: [Unit; Balance::UNITS], n: usize, j: usize) -> bool
     requires { ⌜ Ready (unitsView units n) × (j < n) ⌝ }
     ensures { λ r. ⌜ r ≡ grants.dry (unitsView units n) j ⌝ }
 {
-    let mut gained = [0u64; 64];
-    let mut lost = [0u64; 64];
-    let mut before = [0u64; 64];
-    let mut arrived = [0u64; 64];
+    let mut gained = [0u64; Balance::UNITS];
+    let mut lost = [0u64; Balance::UNITS];
+    let mut before = [0u64; Balance::UNITS];
+    let mut arrived = [0u64; Balance::UNITS];
     river::flow_amounts(units, n, &mut gained, &mut lost, &mut before, &mut arrived);
     let volumes = river::committed(units, n, &gained, &lost, &before, &arrived);
     let ends = reach::outlets(units, n);
@@ -111,7 +112,13 @@ fn giving_aquifer(t: Title) -> u8
 }
 
 // No water for a title that is in, among n units and m aquifers: in the outlet basin of the unit that gives, or in the aquifer that gives.
-pub fn no_water(units: [Unit; 64], n: usize, aquifers: [Aquifer; 32], m: usize, t: Title) -> bool
+pub fn no_water(
+    units: [Unit; Balance::UNITS],
+    n: usize,
+    aquifers: [Aquifer; Balance::AQUIFERS],
+    m: usize,
+    t: Title,
+) -> bool
     requires { ⌜ Ready (unitsView units n) × WellsReady (aquifersView aquifers m) × Named (entriesView units n aquifers m 0) t ⌝ }
     ensures { λ r. ⌜ r ≡ grants.noWater (entriesView units n aquifers m 0) t ⌝ }
 {

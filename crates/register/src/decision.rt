@@ -40,7 +40,7 @@ fn grant_answer(b: Balance, t: Title) -> Answer
 }
 
 // Some flow would be negative without a title.
-fn needed(units: [Unit; 64], n: usize, t: Title) -> bool
+fn needed(units: [Unit; Balance::UNITS], n: usize, t: Title) -> bool
     requires { ⌜ UnitsHeld t units × Ready (unitsView (loweredUnits t units) n) ⌝ }
     ensures { λ r. ⌜ r ≡ not (sounds.flowing (unitsView (loweredUnits t units) n)) ⌝ }
 {

@@ -18,7 +18,11 @@ use model::Place;
 use model::Unit;
 
 // Three arrays have their full length.
-fn lengths(units: [Unit; 64], aquifers: [Aquifer; 32], titles: [Place; 256]) -> bool
+fn lengths(
+    units: [Unit; Balance::UNITS],
+    aquifers: [Aquifer; Balance::AQUIFERS],
+    titles: [Place; Balance::TITLES],
+) -> bool
     ensures { λ r. ⌜ (length units ≡ 64) × (length aquifers ≡ 32) × (length titles ≡ 256) ⌝ }
 {
     true

@@ -5,6 +5,7 @@ ghost use Rattle.river.specs.Flow.{Ready};
 ghost use Rattle.river.specs.Passes.{Clear, Flows};
 ghost use Rattle.river.specs.Units.{unitsView};
 use crate::reserve::contribution;
+use model::Balance;
 use model::Unit;
 
 // What a unit gains: natural runoff, returns, imports and the fall of its storage.
@@ -28,12 +29,12 @@ pub fn loss(u: Unit) -> u64
 // Forward over the units: all that is gained and lost at each unit and above it goes on to its downstream unit, and its contribution is
 // added to what has arrived there.
 pub fn flow_amounts(
-    units: [Unit; 64],
+    units: [Unit; Balance::UNITS],
     n: usize,
-    gained: &mut [u64; 64],
-    lost: &mut [u64; 64],
-    before: &mut [u64; 64],
-    arrived: &mut [u64; 64],
+    gained: &mut [u64; Balance::UNITS],
+    lost: &mut [u64; Balance::UNITS],
+    before: &mut [u64; Balance::UNITS],
+    arrived: &mut [u64; Balance::UNITS],
 )
     requires { ⌜ Ready (unitsView units n) ⌝ }
     requires { ⌜ Clear (now gained) (now lost) (now before) (now arrived) ⌝ }

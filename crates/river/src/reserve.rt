@@ -7,6 +7,7 @@ ghost use Rattle.river.specs.Passes.{Flows, CommittedVolumes, Splits, fr
 ghost use Rattle.river.specs.Units.{unitsView};
 ghost use mathlib.Core.Bool.{cond};
 ghost use lib.Dec.{eqb};
+use model::Balance;
 use model::Unit;
 
 // What a unit contributes to its downstream unit: its flow, or 0 where that is negative.
@@ -94,18 +95,18 @@ pub fn from_own(u: Unit, committed: u64, arrived: u64) -> u64
 
 // Backward over the units: an outlet's committed volume is its commitment, another unit's is its share of the demand below.
 pub fn committed<'a>(
-    units: [Unit; 64],
+    units: [Unit; Balance::UNITS],
     n: usize,
-    gained: &'a [u64; 64],
-    lost: &'a [u64; 64],
-    before: &'a [u64; 64],
-    arrived: &'a [u64; 64],
-) -> [u64; 64]
+    gained: &'a [u64; Balance::UNITS],
+    lost: &'a [u64; Balance::UNITS],
+    before: &'a [u64; Balance::UNITS],
+    arrived: &'a [u64; Balance::UNITS],
+) -> [u64; Balance::UNITS]
     requires { ⌜ Ready (unitsView units n) ⌝ }
     requires { ⌜ Flows (unitsView units n) (now gained) (now lost) (now before) (now arrived) ⌝ }
     ensures { λ r. ⌜ CommittedVolumes (unitsView units n) r ⌝ }
 {
-    let mut volumes = [0u64; 64];
+    let mut volumes = [0u64; Balance::UNITS];
     let mut i = n;
     while 0 < i {
         i -= 1;

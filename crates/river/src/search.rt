@@ -7,16 +7,17 @@ ghost use Rattle.river.specs.Flow.{Ready, flow};
 ghost use Rattle.river.specs.Units.{unitsView};
 use crate::flow::gain;
 use crate::flow::loss;
+use model::Balance;
 use model::Found;
 use model::Unit;
 
 // The lowest-numbered unit with a negative flow, if there is one: more is lost at it than arrives from above and is gained there. Forward
 // over the units, the flow of each goes on to its downstream unit.
-pub fn first_negative(units: [Unit; 64], n: usize) -> Found
+pub fn first_negative(units: [Unit; Balance::UNITS], n: usize) -> Found
     requires { ⌜ Ready (unitsView units n) ⌝ }
     ensures { λ r. ⌜ r ≡ first n (λ j. not (nonNeg (flow (unitsView units n) j))) ⌝ }
 {
-    let mut arrived = [0u64; 64];
+    let mut arrived = [0u64; Balance::UNITS];
     let mut i = 0;
     loop {
         if n <= i {

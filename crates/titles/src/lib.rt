@@ -1,4 +1,5 @@
 // What titles add to the entries of units and aquifers.
+use model::Balance;
 use model::Title;
 ghost use mathlib.Core.Path.{_≡_};
 ghost use Rattle.titles.specs.Adds as adds;
@@ -15,11 +16,11 @@ pub enum Slot {
 
 // What titles add together to each entry, for each unit or aquifer: number n stands at n - 1.
 pub struct Sums {
-    pub extraction: [u64; 64],
-    pub exports: [u64; 64],
-    pub imports: [u64; 64],
-    pub returns: [u64; 64],
-    pub wells: [u64; 64],
+    pub extraction: [u64; Balance::UNITS],
+    pub exports: [u64; Balance::UNITS],
+    pub imports: [u64; Balance::UNITS],
+    pub returns: [u64; Balance::UNITS],
+    pub wells: [u64; Balance::UNITS],
 }
 
 // The percentage of a use that returns (000, 4.2.5): 1 agriculture, 2 urban, 3 industry, 4 domestic, 5 livestock, 6 aquaculture,
@@ -48,7 +49,7 @@ pub fn returned(usage: u8, volume: u32) -> u32
 }
 
 // The amount of one posting is added at its number. A number that is 0 or above 64 is passed over.
-fn raise(sums: &mut [u64; 64], number: u8, amount: u32)
+fn raise(sums: &mut [u64; Balance::UNITS], number: u8, amount: u32)
     requires { ⌜ whole.Roomy (now sums) ⌝ }
     ensures { λ _. ⌜ whole.Raised (now (sums .entry)) number amount (now (sums .exit)) ⌝ }
 {
@@ -67,11 +68,11 @@ fn raise(sums: &mut [u64; 64], number: u8, amount: u32)
 // aquifer to the aquifer's extraction and the unit's imports.
 pub fn add(
     title: Title,
-    extraction: &mut [u64; 64],
-    exports: &mut [u64; 64],
-    imports: &mut [u64; 64],
-    returns: &mut [u64; 64],
-    wells: &mut [u64; 64],
+    extraction: &mut [u64; Balance::UNITS],
+    exports: &mut [u64; Balance::UNITS],
+    imports: &mut [u64; Balance::UNITS],
+    returns: &mut [u64; Balance::UNITS],
+    wells: &mut [u64; Balance::UNITS],
 )
     requires { ⌜ whole.RoomyAll (whole.five (now extraction) (now exports) (now imports) (now returns) (now wells)) ⌝ }
     ensures { λ _. ⌜ whole.RaisedAll title
