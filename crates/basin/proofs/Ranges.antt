@@ -13,7 +13,7 @@ use Rattle.laws.proofs.Signs.{whole}
 use Rattle.laws.proofs.Parts.{above-read, below-read, Less, less-pos, less-minus, less-nonNeg, less-negative}
 use Rattle.laws.proofs.Cases.{by-bool}
 use Rattle.laws.specs.Signed.{above, below}
-use Rattle.model.specs.View.{termLimit}
+use Rattle.model.specs.Limits.{termLimit}
 use Rattle.model.specs.declared.Aquifer.{Aquifer}
 use Rattle.river.specs.Wells.{recharge}
 use Rattle.figures.proofs.Aquifers.{recharge-is}

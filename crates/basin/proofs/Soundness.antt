@@ -16,7 +16,8 @@ use Rattle.model.specs.declared.Title.{Title}
 use Rattle.model.specs.declared.Title.the-variants.{UnitWithdrawal, AquiferWithdrawal, UnitTransfer, AquiferTransfer}
 use Rattle.model.specs.declared.Place.{Place}
 use Rattle.model.specs.Fresh.{freshBalance}
-use Rattle.model.specs.View.{View, viewOf, termLimit}
+use Rattle.model.specs.View.{View, viewOf}
+use Rattle.model.specs.Limits.{termLimit}
 use Rattle.river.specs.Flow.{flow, Ready}
 use Rattle.river.specs.Wells.{recharge}
 use Rattle.figures.specs.Figures.{WellsReady}

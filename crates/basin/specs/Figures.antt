@@ -3,6 +3,7 @@ use mathlib.Core.Bool.{cond, not}
 use lib.ListN.{replicate}
 use Rattle.model.specs.Answers.{none, refuse, answered}
 use Rattle.model.specs.View.{View}
+use Rattle.model.specs.Limits.{unitLimit, aquiferLimit}
 use Rattle.figures.specs.Figures.{noUnitFigures, noAquiferFigures, allUnitFigures, allAquiferFigures}
 use Rattle.basin.specs.Sound.{sound}
 use Rattle.basin.specs.declared.Figures.{Figures}
@@ -12,6 +13,6 @@ abbrev pub figuresReply : View → Figures
 figuresReply v =
     record {
       answer = answered (refuse 0 (not (sound v)) none);
-      units = cond (sound v) (allUnitFigures v) (replicate 64 noUnitFigures);
-      aquifers = cond (sound v) (allAquiferFigures v) (replicate 32 noAquiferFigures);
+      units = cond (sound v) (allUnitFigures v) (replicate unitLimit noUnitFigures);
+      aquifers = cond (sound v) (allAquiferFigures v) (replicate aquiferLimit noAquiferFigures);
     }

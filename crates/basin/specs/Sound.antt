@@ -13,7 +13,8 @@ use Rattle.model.specs.declared.Title.{Title}
 use Rattle.model.specs.declared.Title.the-variants.{UnitWithdrawal, AquiferWithdrawal, UnitTransfer, AquiferTransfer}
 use Rattle.model.specs.declared.Place.{Place}
 use Rattle.model.specs.Fresh.{emptyUnit, emptyAquifer, emptyPlace}
-use Rattle.model.specs.View.{View, termLimit}
+use Rattle.model.specs.View.{View}
+use Rattle.model.specs.Limits.{unitLimit, aquiferLimit, titleLimit, termLimit}
 use Rattle.river.specs.Flow.{flow}
 use Rattle.river.specs.Wells.{recharge}
 use Rattle.titles.specs.Adds.{titled}
@@ -95,7 +96,7 @@ aquiferHolds aquifers extraction j =
 
 -- The counts are within their limits.
 abbrev pub soundCounts : View → Bool
-soundCounts v = leb (v .units) 64 && (leb (v .aquifers) 32 && leb (v .given) 256)
+soundCounts v = leb (v .units) unitLimit && (leb (v .aquifers) aquiferLimit && leb (v .given) titleLimit)
 
 -- Each unit is sound, and so is each aquifer and each title in force.
 abbrev pub soundUnits : View → Bool

@@ -2,6 +2,7 @@
 ghost use mathlib.Core.Path.{_≡_};
 ghost use Prim.Native.Nat.{_≤_};
 ghost use Rattle.laws.specs.Sum.{every};
+ghost use Rattle.model.specs.Limits.{unitLimit, aquiferLimit};
 ghost use Rattle.basin.specs.Sound as sounds;
 use crate::entries::aquifer_sound;
 use crate::entries::unit_sound;
@@ -34,7 +35,7 @@ pub fn units_hold<'a>(
     imports: &'a [u64; Balance::UNITS],
     returns: &'a [u64; Balance::UNITS],
 ) -> bool
-    requires { ⌜ n ≤ 64 ⌝ }
+    requires { ⌜ n ≤ unitLimit ⌝ }
     ensures { λ r. ⌜ r ≡ every n
         (sounds.unitHolds n units (now (extraction .entry)) (now (exports .entry)) (now (imports .entry)) (now (returns .entry))) ⌝ }
 {
@@ -58,7 +59,7 @@ pub fn aquifers_hold(
     n: usize,
     extraction: &[u64; Balance::UNITS],
 ) -> bool
-    requires { ⌜ n ≤ 32 ⌝ }
+    requires { ⌜ n ≤ aquiferLimit ⌝ }
     ensures { λ r. ⌜ r ≡ every n (sounds.aquiferHolds aquifers (now (extraction .entry))) ⌝ }
 {
     let mut i = 0;

@@ -2,6 +2,7 @@
 ghost use mathlib.Core.Path.{_≡_};
 ghost use lib.ListN.{replicate};
 ghost use Rattle.model.specs.View.{viewOf};
+ghost use Rattle.model.specs.Limits.{unitLimit, aquiferLimit};
 ghost use Rattle.figures.specs.Figures.{noUnitFigures, noAquiferFigures};
 ghost use Rattle.basin.specs.Figures as replies;
 use crate::Figures;
@@ -13,7 +14,7 @@ use model::Balance;
 
 // 0 in every place for units.
 fn no_units() -> [UnitFigures; Balance::UNITS]
-    ensures { λ r. ⌜ r ≡ replicate 64 noUnitFigures ⌝ }
+    ensures { λ r. ⌜ r ≡ replicate unitLimit noUnitFigures ⌝ }
 {
     let none = UnitFigures {
         flow: 0,
@@ -26,7 +27,7 @@ fn no_units() -> [UnitFigures; Balance::UNITS]
 
 // 0 in every place for aquifers.
 fn no_aquifers() -> [AquiferFigures; Balance::AQUIFERS]
-    ensures { λ r. ⌜ r ≡ replicate 32 noAquiferFigures ⌝ }
+    ensures { λ r. ⌜ r ≡ replicate aquiferLimit noAquiferFigures ⌝ }
 {
     let none = AquiferFigures {
         recharge: 0,

@@ -4,6 +4,7 @@ ghost use mathlib.Core.Bool.{true, _&&_};
 ghost use Prim.Native.Nat.{_≤_};
 ghost use lib.Dec.{leb};
 ghost use Rattle.model.specs.View.{viewOf};
+ghost use Rattle.model.specs.Limits.{unitLimit, aquiferLimit, titleLimit};
 ghost use Rattle.river.specs.Passes.{Clear, Flows};
 ghost use Rattle.river.specs.Units.{unitsView};
 ghost use Rattle.basin.specs.Sound as sounds;
@@ -17,7 +18,7 @@ use model::Unit;
 
 // The counts are within their limits.
 fn counts_sound(units: usize, aquifers: usize, given: usize) -> bool
-    ensures { λ r. ⌜ r ≡ (leb units 64 && (leb aquifers 32 && leb given 256)) ⌝ }
+    ensures { λ r. ⌜ r ≡ (leb units unitLimit && (leb aquifers aquiferLimit && leb given titleLimit)) ⌝ }
 {
     if units > Balance::UNITS {
         return false;
@@ -38,7 +39,7 @@ fn entries_hold(
     titles: [Place; Balance::TITLES],
     given: usize,
 ) -> bool
-    requires { ⌜ (n ≤ 64) × (m ≤ 32) × (given ≤ 256) ⌝ }
+    requires { ⌜ (n ≤ unitLimit) × (m ≤ aquiferLimit) × (given ≤ titleLimit) ⌝ }
     ensures { λ r. ⌜ r ≡ sounds.entriesHold (sounds.partsView units n aquifers m titles given) ⌝ }
 {
     let mut extraction = [0u64; Balance::UNITS];
@@ -74,7 +75,7 @@ fn entries_hold(
 
 // No more is lost than gained at any unit.
 fn flowing<'a>(n: usize, gained: &'a [u64; Balance::UNITS], lost: &'a [u64; Balance::UNITS]) -> bool
-    requires { ⌜ n ≤ 64 ⌝ }
+    requires { ⌜ n ≤ unitLimit ⌝ }
     ensures { λ r. ⌜ r ≡ sounds.balanced n (now (gained .entry)) (now (lost .entry)) ⌝ }
 {
     let mut i = 0;

@@ -16,7 +16,9 @@ use Rattle.model.specs.declared.Found.the-variants.{At, Nothing}
 use Rattle.model.specs.Fresh.{emptyUnit, emptyAquifer, emptyPlace, freshBalance}
 use Rattle.model.specs.View.{View, viewOf}
 use Rattle.model.specs.Answers.{first}
+use Rattle.model.specs.Limits.{unitLimit, aquiferLimit, titleLimit, termLimit}
 use Rattle.river.specs.Flow.{downstream, flow, gain, loss}
+use Rattle.river.specs.Limits.{gainLimit}
 use Rattle.record.specs.declared.UnitRecord.{UnitRecord}
 use Rattle.book.specs.declared.Opened.{Opened}
 use Rattle.record.specs.Record.{unitOf, noUnit}
@@ -69,11 +71,11 @@ fullOf b u n m = counted (stored b u n) n m
 abbrev pub draft : Description → Balance
 draft d =
     record {
-      units = table 64 emptyUnit (length (d .units) - 1) (λ k. unitOf (getD (d .units) k noUnit));
+      units = table unitLimit emptyUnit (length (d .units) - 1) (λ k. unitOf (getD (d .units) k noUnit));
       «unit_count» = 0;
-      aquifers = table 32 emptyAquifer (length (d .aquifers)) (λ k. getD (d .aquifers) k emptyAquifer);
+      aquifers = table aquiferLimit emptyAquifer (length (d .aquifers)) (λ k. getD (d .aquifers) k emptyAquifer);
       «aquifer_count» = 0;
-      titles = replicate 256 emptyPlace;
+      titles = replicate titleLimit emptyPlace;
       given = 0;
     }
 
@@ -102,15 +104,15 @@ endedWith b u n m at =
 
 -- Entries that can be added up, and a tree that drains onward, perhaps past the last unit.
 pub record Bounded (v : View) : Type 0 where
-  pub few : v .units ≤ 64
+  pub few : v .units ≤ unitLimit
   pub onward : (k : ℕ) → k < v .units → (downstream v k ≡ 0) ⊎ (suc k < downstream v k)
-  pub gains : (k : ℕ) → k < v .units → gain (v .unit k) ≤ 40000000
-  pub losses : (k : ℕ) → k < v .units → loss (v .unit k) ≤ 40000000
-  pub commitments : (k : ℕ) → k < v .units → v .unit k .commitment ≤ 10000000
+  pub gains : (k : ℕ) → k < v .units → gain (v .unit k) ≤ gainLimit
+  pub losses : (k : ℕ) → k < v .units → loss (v .unit k) ≤ gainLimit
+  pub commitments : (k : ℕ) → k < v .units → v .unit k .commitment ≤ termLimit
 
 -- What the end of a description finds: counts within their limits, and, if the open unit closes, entries that can be added up.
 pub record EndReady (b : Balance) (u : UnitRecord) (n m : ℕ) : Type 0 where
-  pub room : n ≤ 64
+  pub room : n ≤ unitLimit
   pub sane : Sane u
   pub full : closingFault n u ≡ 0 → Bounded (viewOf (fullOf b u n m))
   pub closed : closingFault n u ≡ 0 → (n ≡ 0 → ⊥) → Closed u

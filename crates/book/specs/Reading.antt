@@ -13,6 +13,7 @@ use Rattle.model.specs.declared.Found.the-variants.{At, Nothing}
 use Rattle.model.specs.Fresh.{emptyUnit, emptyAquifer, emptyPlace, freshBalance}
 use Rattle.model.specs.View.{viewOf}
 use Rattle.model.specs.Answers.{none, number, answered, first}
+use Rattle.model.specs.Limits.{unitLimit, aquiferLimit, titleLimit}
 use Rattle.river.specs.Flow.{flow}
 use Rattle.record.specs.declared.UnitRecord.{UnitRecord}
 use Rattle.record.specs.declared.Mark.{Mark}
@@ -100,11 +101,11 @@ lastUnit d = getD (d .units) (length (d .units) - 1) noUnit
 abbrev pub balanceOf : Description → Balance
 balanceOf d =
     record {
-      units = table 64 emptyUnit (length (d .units)) (λ k. unitOf (getD (d .units) k noUnit));
+      units = table unitLimit emptyUnit (length (d .units)) (λ k. unitOf (getD (d .units) k noUnit));
       «unit_count» = length (d .units);
-      aquifers = table 32 emptyAquifer (length (d .aquifers)) (λ k. getD (d .aquifers) k emptyAquifer);
+      aquifers = table aquiferLimit emptyAquifer (length (d .aquifers)) (λ k. getD (d .aquifers) k emptyAquifer);
       «aquifer_count» = length (d .aquifers);
-      titles = replicate 256 emptyPlace;
+      titles = replicate titleLimit emptyPlace;
       given = 0;
     }
 

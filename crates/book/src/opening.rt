@@ -2,6 +2,7 @@
 ghost use mathlib.Core.Path.{_≡_};
 ghost use Prim.Native.Nat.{_≤_, _<_};
 ghost use Rattle.model.specs.View.{viewOf};
+ghost use Rattle.model.specs.Limits.{unitLimit};
 ghost use Rattle.record.specs.Record as records;
 ghost use Rattle.record.specs.Fault.{Closed};
 ghost use Rattle.book.specs.Reading as reading;
@@ -29,7 +30,7 @@ pub fn refused(number: u8, place: usize) -> Opened
 
 // The balance with the open unit, the last of n, put in.
 fn stored(mut b: Balance, u: UnitRecord, n: usize) -> Balance
-    requires { ⌜ n ≤ 64 ⌝ }
+    requires { ⌜ n ≤ unitLimit ⌝ }
     requires { ⌜ (0 < n → Closed u) ⌝ }
     ensures { λ r. ⌜ r ≡ opening.stored b u n ⌝ }
 {
@@ -44,7 +45,7 @@ fn stored(mut b: Balance, u: UnitRecord, n: usize) -> Balance
 
 // The lowest-numbered unit whose downstream number is above the last unit's, if there is one.
 fn first_missing(b: Balance) -> Found
-    requires { ⌜ viewOf b .units ≤ 64 ⌝ }
+    requires { ⌜ viewOf b .units ≤ unitLimit ⌝ }
     ensures { λ r. ⌜ r ≡ opening.missing (viewOf b) ⌝ }
 {
     let n = b.unit_count;

@@ -10,6 +10,7 @@ use Rattle.model.specs.declared.Title.{Title}
 use Rattle.model.specs.declared.Title.the-variants.{UnitWithdrawal, AquiferWithdrawal, UnitTransfer, AquiferTransfer}
 use Rattle.model.specs.declared.Balance.{Balance}
 use Rattle.model.specs.View.{View, viewOf}
+use Rattle.model.specs.Limits.{unitLimit, aquiferLimit}
 use Rattle.titles.specs.Adds.{adds, returned}
 use Rattle.titles.specs.declared.Slot.the-variants.{Extraction, Exports, Imports, Returns, WellExtraction}
 use Rattle.effect.specs.Effect.{unwithdrawn, unexported, unimported, unpumped, unitAt, aquiferAt, changeUnit, changeWell}
@@ -91,19 +92,19 @@ Held v (AquiferTransfer a u x) =
 
 -- The same of the units, and of the aquifers.
 abbrev pub UnitsHeld : Title → List Unit → Type 0
-UnitsHeld (UnitWithdrawal u r x) us = (0 < u) × (u ≤ 64) × (x ≤ unitAt u us .extraction) × (returned r x ≤ unitAt u us .returns)
+UnitsHeld (UnitWithdrawal u r x) us = (0 < u) × (u ≤ unitLimit) × (x ≤ unitAt u us .extraction) × (returned r x ≤ unitAt u us .returns)
 UnitsHeld (AquiferWithdrawal a x) us = 0 < a
 UnitsHeld (UnitTransfer g r x) us =
-    (0 < g) × (g ≤ 64) × (0 < r) × (r ≤ 64) × (x ≤ unitAt g us .exports) × (x ≤ unitAt r us .imports)
-UnitsHeld (AquiferTransfer a u x) us = (0 < u) × (u ≤ 64) × (x ≤ unitAt u us .imports)
+    (0 < g) × (g ≤ unitLimit) × (0 < r) × (r ≤ unitLimit) × (x ≤ unitAt g us .exports) × (x ≤ unitAt r us .imports)
+UnitsHeld (AquiferTransfer a u x) us = (0 < u) × (u ≤ unitLimit) × (x ≤ unitAt u us .imports)
 
 abbrev pub WellsHeld : Title → List Aquifer → Type 0
 WellsHeld (UnitWithdrawal u r x) ws = 0 < u
-WellsHeld (AquiferWithdrawal a x) ws = (0 < a) × (a ≤ 32) × (x ≤ aquiferAt a ws .extraction)
+WellsHeld (AquiferWithdrawal a x) ws = (0 < a) × (a ≤ aquiferLimit) × (x ≤ aquiferAt a ws .extraction)
 WellsHeld (UnitTransfer g r x) ws = 0 < g
-WellsHeld (AquiferTransfer a u x) ws = (0 < a) × (a ≤ 32) × (x ≤ aquiferAt a ws .extraction)
+WellsHeld (AquiferTransfer a u x) ws = (0 < a) × (a ≤ aquiferLimit) × (x ≤ aquiferAt a ws .extraction)
 
 pub record Takable (b : Balance) (t : Title) : Type 0 where
-  pub units : b .«unit_count» ≤ 64
-  pub aquifers : b .«aquifer_count» ≤ 32
+  pub units : b .«unit_count» ≤ unitLimit
+  pub aquifers : b .«aquifer_count» ≤ aquiferLimit
   pub held : Held (viewOf b) t

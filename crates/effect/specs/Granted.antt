@@ -11,7 +11,8 @@ use Rattle.model.specs.declared.Title.{Title}
 use Rattle.model.specs.declared.Title.the-variants.{UnitWithdrawal, AquiferWithdrawal, UnitTransfer, AquiferTransfer}
 use Rattle.model.specs.declared.Balance.{Balance}
 use Rattle.model.specs.Fresh.{emptyUnit, emptyAquifer}
-use Rattle.model.specs.View.{View, viewOf, termLimit}
+use Rattle.model.specs.View.{View, viewOf}
+use Rattle.model.specs.Limits.{unitLimit, aquiferLimit, titleLimit, termLimit}
 use Rattle.titles.specs.Adds.{adds, returned}
 use Rattle.titles.specs.declared.Slot.the-variants.{Extraction, Exports, Imports, Returns, WellExtraction}
 use Rattle.effect.specs.Effect.{unitAt, aquiferAt}
@@ -88,9 +89,9 @@ posted b t =
 
 -- The arrays of a balance have their full length.
 pub record Sized (b : Balance) : Type 0 where
-  pub units : length (b .units) ≡ 64
-  pub aquifers : length (b .aquifers) ≡ 32
-  pub titles : length (b .titles) ≡ 256
+  pub units : length (b .units) ≡ unitLimit
+  pub aquifers : length (b .aquifers) ≡ aquiferLimit
+  pub titles : length (b .titles) ≡ titleLimit
 
 -- A title that can be put in: what it names is there, and no entry that it raises passes the limit.
 abbrev pub Named : View → Title → Type 0
@@ -108,21 +109,21 @@ Fits v (AquiferTransfer a u x) = (v .aquifer (pred a) .extraction + x ≤ termLi
 -- The same of the units, and of the aquifers, that the title raises.
 abbrev pub UnitsFit : Title → List Unit → Type 0
 UnitsFit (UnitWithdrawal u r x) us =
-    (0 < u) × (u ≤ 64) × (unitAt u us .extraction + x ≤ termLimit) × (unitAt u us .returns + returned r x ≤ termLimit)
+    (0 < u) × (u ≤ unitLimit) × (unitAt u us .extraction + x ≤ termLimit) × (unitAt u us .returns + returned r x ≤ termLimit)
 UnitsFit (AquiferWithdrawal a x) us = 0 < a
 UnitsFit (UnitTransfer g r x) us =
-    (0 < g) × (g ≤ 64) × (0 < r) × (r ≤ 64) × (g ≡ r → ⊥) × (unitAt g us .exports + x ≤ termLimit) × (unitAt r us .imports + x ≤ termLimit)
-UnitsFit (AquiferTransfer a u x) us = (0 < u) × (u ≤ 64) × (unitAt u us .imports + x ≤ termLimit)
+    (0 < g) × (g ≤ unitLimit) × (0 < r) × (r ≤ unitLimit) × (g ≡ r → ⊥) × (unitAt g us .exports + x ≤ termLimit) × (unitAt r us .imports + x ≤ termLimit)
+UnitsFit (AquiferTransfer a u x) us = (0 < u) × (u ≤ unitLimit) × (unitAt u us .imports + x ≤ termLimit)
 
 abbrev pub WellsFit : Title → List Aquifer → Type 0
 WellsFit (UnitWithdrawal u r x) ws = 0 < u
-WellsFit (AquiferWithdrawal a x) ws = (0 < a) × (a ≤ 32) × (aquiferAt a ws .extraction + x ≤ termLimit)
+WellsFit (AquiferWithdrawal a x) ws = (0 < a) × (a ≤ aquiferLimit) × (aquiferAt a ws .extraction + x ≤ termLimit)
 WellsFit (UnitTransfer g r x) ws = 0 < g
-WellsFit (AquiferTransfer a u x) ws = (0 < a) × (a ≤ 32) × (aquiferAt a ws .extraction + x ≤ termLimit)
+WellsFit (AquiferTransfer a u x) ws = (0 < a) × (a ≤ aquiferLimit) × (aquiferAt a ws .extraction + x ≤ termLimit)
 
 pub record Grantable (b : Balance) (t : Title) : Type 0 where
-  pub room : b .given < 256
-  pub units : b .«unit_count» ≤ 64
-  pub aquifers : b .«aquifer_count» ≤ 32
+  pub room : b .given < titleLimit
+  pub units : b .«unit_count» ≤ unitLimit
+  pub aquifers : b .«aquifer_count» ≤ aquiferLimit
   pub named : Named (viewOf b) t
   pub fits : Fits (viewOf b) t

@@ -5,6 +5,7 @@ ghost use Rattle.effect.specs.Granted as grants;
 ghost use Rattle.effect.specs.Granted.{Grantable, UnitsFit, WellsFit};
 ghost use lib.ListN.{getD, set};
 ghost use Rattle.model.specs.Fresh.{emptyUnit, emptyAquifer};
+ghost use Rattle.model.specs.Limits.{unitLimit, aquiferLimit, termLimit};
 ghost use Rattle.effect.specs.Effect as effects;
 use model::Aquifer;
 use model::Balance;
@@ -29,8 +30,8 @@ fn withdrawn_at(
     volume: u32,
     back: u32,
 ) -> [Unit; Balance::UNITS]
-    requires { ⌜ k < 64 ⌝ }
-    requires { ⌜ (getD units k emptyUnit .extraction + volume ≤ 10000000) × (getD units k emptyUnit .returns + back ≤ 10000000) ⌝ }
+    requires { ⌜ k < unitLimit ⌝ }
+    requires { ⌜ (getD units k emptyUnit .extraction + volume ≤ termLimit) × (getD units k emptyUnit .returns + back ≤ termLimit) ⌝ }
     ensures { λ r. ⌜ r ≡ set units k (effects.withdrawn (getD units k emptyUnit) volume back) ⌝ }
 {
     let mut u = units[k];
@@ -42,7 +43,7 @@ fn withdrawn_at(
 
 // The units with an export at the unit of an index.
 fn exported_at(mut units: [Unit; Balance::UNITS], k: usize, volume: u32) -> [Unit; Balance::UNITS]
-    requires { ⌜ (k < 64) × (getD units k emptyUnit .exports + volume ≤ 10000000) ⌝ }
+    requires { ⌜ (k < unitLimit) × (getD units k emptyUnit .exports + volume ≤ termLimit) ⌝ }
     ensures { λ r. ⌜ r ≡ set units k (effects.exported (getD units k emptyUnit) volume) ⌝ }
 {
     let mut u = units[k];
@@ -53,7 +54,7 @@ fn exported_at(mut units: [Unit; Balance::UNITS], k: usize, volume: u32) -> [Uni
 
 // The units with an import at the unit of an index.
 fn imported_at(mut units: [Unit; Balance::UNITS], k: usize, volume: u32) -> [Unit; Balance::UNITS]
-    requires { ⌜ (k < 64) × (getD units k emptyUnit .imports + volume ≤ 10000000) ⌝ }
+    requires { ⌜ (k < unitLimit) × (getD units k emptyUnit .imports + volume ≤ termLimit) ⌝ }
     ensures { λ r. ⌜ r ≡ set units k (effects.imported (getD units k emptyUnit) volume) ⌝ }
 {
     let mut u = units[k];
@@ -68,7 +69,7 @@ fn pumped_at(
     k: usize,
     volume: u32,
 ) -> [Aquifer; Balance::AQUIFERS]
-    requires { ⌜ (k < 32) × (getD aquifers k emptyAquifer .extraction + volume ≤ 10000000) ⌝ }
+    requires { ⌜ (k < aquiferLimit) × (getD aquifers k emptyAquifer .extraction + volume ≤ termLimit) ⌝ }
     ensures { λ r. ⌜ r ≡ set aquifers k (effects.pumped (getD aquifers k emptyAquifer) volume) ⌝ }
 {
     let mut a = aquifers[k];

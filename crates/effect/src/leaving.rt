@@ -4,6 +4,7 @@ ghost use Prim.Native.Nat.{_≤_, _<_};
 ghost use Rattle.model.specs.View.{viewOf};
 ghost use lib.ListN.{getD, set};
 ghost use Rattle.model.specs.Fresh.{emptyUnit, emptyAquifer};
+ghost use Rattle.model.specs.Limits.{unitLimit, aquiferLimit, titleLimit};
 ghost use Rattle.effect.specs.Effect as effects;
 ghost use Rattle.effect.specs.Cancelled as cancels;
 use model::Aquifer;
@@ -19,7 +20,7 @@ fn unwithdrawn_at(
     volume: u32,
     back: u32,
 ) -> [Unit; Balance::UNITS]
-    requires { ⌜ k < 64 ⌝ }
+    requires { ⌜ k < unitLimit ⌝ }
     requires { ⌜ (volume ≤ getD units k emptyUnit .extraction) × (back ≤ getD units k emptyUnit .returns) ⌝ }
     ensures { λ r. ⌜ r ≡ set units k (effects.unwithdrawn (getD units k emptyUnit) volume back) ⌝ }
 {
@@ -32,7 +33,7 @@ fn unwithdrawn_at(
 
 // The units without an export at the unit of an index.
 fn unexported_at(mut units: [Unit; Balance::UNITS], k: usize, volume: u32) -> [Unit; Balance::UNITS]
-    requires { ⌜ (k < 64) × (volume ≤ getD units k emptyUnit .exports) ⌝ }
+    requires { ⌜ (k < unitLimit) × (volume ≤ getD units k emptyUnit .exports) ⌝ }
     ensures { λ r. ⌜ r ≡ set units k (effects.unexported (getD units k emptyUnit) volume) ⌝ }
 {
     let mut u = units[k];
@@ -43,7 +44,7 @@ fn unexported_at(mut units: [Unit; Balance::UNITS], k: usize, volume: u32) -> [U
 
 // The units without an import at the unit of an index.
 fn unimported_at(mut units: [Unit; Balance::UNITS], k: usize, volume: u32) -> [Unit; Balance::UNITS]
-    requires { ⌜ (k < 64) × (volume ≤ getD units k emptyUnit .imports) ⌝ }
+    requires { ⌜ (k < unitLimit) × (volume ≤ getD units k emptyUnit .imports) ⌝ }
     ensures { λ r. ⌜ r ≡ set units k (effects.unimported (getD units k emptyUnit) volume) ⌝ }
 {
     let mut u = units[k];
@@ -58,7 +59,7 @@ fn unpumped_at(
     k: usize,
     volume: u32,
 ) -> [Aquifer; Balance::AQUIFERS]
-    requires { ⌜ (k < 32) × (volume ≤ getD aquifers k emptyAquifer .extraction) ⌝ }
+    requires { ⌜ (k < aquiferLimit) × (volume ≤ getD aquifers k emptyAquifer .extraction) ⌝ }
     ensures { λ r. ⌜ r ≡ set aquifers k (effects.unpumped (getD aquifers k emptyAquifer) volume) ⌝ }
 {
     let mut a = aquifers[k];
@@ -130,7 +131,7 @@ fn lowered_wells(aquifers: [Aquifer; Balance::AQUIFERS], t: Title) -> [Aquifer; 
 
 // The balance with the title under a number out of force: every entry lowered by what the title added, and its place kept.
 pub fn take_back(b: Balance, number: u16) -> Balance
-    requires { ⌜ (0 < number) × (number ≤ 256) × cancels.Takable b (cancels.titleOf (viewOf b) number) ⌝ }
+    requires { ⌜ (0 < number) × (number ≤ titleLimit) × cancels.Takable b (cancels.titleOf (viewOf b) number) ⌝ }
     ensures { λ r. ⌜ r ≡ cancels.withoutTitle b number ⌝ }
 {
     let units = b.units;

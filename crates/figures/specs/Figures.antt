@@ -8,6 +8,7 @@ use Rattle.model.specs.declared.Aquifer.{Aquifer}
 use Rattle.model.specs.declared.Unit.{Unit}
 use Rattle.model.specs.Fresh.{emptyUnit, emptyAquifer, emptyPlace}
 use Rattle.model.specs.View.{View}
+use Rattle.model.specs.Limits.{unitLimit, aquiferLimit, termLimit}
 use Rattle.river.specs.Flow.{flow}
 use Rattle.river.specs.Reserve.{committed, ownReserve, availability}
 use Rattle.river.specs.Passes.{fromOwn}
@@ -46,16 +47,16 @@ noAquiferFigures = record { recharge = pos 0; availability = pos 0 }
 
 -- The figures of all units, and of all aquifers, with 0 in the unused places.
 abbrev pub allUnitFigures : View → List UnitFigures
-allUnitFigures v = table 64 noUnitFigures (v .units) (unitFigures v)
+allUnitFigures v = table unitLimit noUnitFigures (v .units) (unitFigures v)
 
 abbrev pub allAquiferFigures : View → List AquiferFigures
-allAquiferFigures v = table 32 noAquiferFigures (v .aquifers) (aquiferFigures v)
+allAquiferFigures v = table aquiferLimit noAquiferFigures (v .aquifers) (aquiferFigures v)
 
 -- A view whose aquifers can be worked out: at most 32, with storage changes that can be added up.
 pub record WellsReady (v : View) : Type 0 where
-  pub few : v .aquifers ≤ 32
-  pub rises : (k : ℕ) → k < v .aquifers → above (v .aquifer k .storage) ≤ 10000000
-  pub falls : (k : ℕ) → k < v .aquifers → below (v .aquifer k .storage) ≤ 10000000
+  pub few : v .aquifers ≤ aquiferLimit
+  pub rises : (k : ℕ) → k < v .aquifers → above (v .aquifer k .storage) ≤ termLimit
+  pub falls : (k : ℕ) → k < v .aquifers → below (v .aquifer k .storage) ≤ termLimit
 
 -- The view of aquifers alone: no units and no titles.
 abbrev pub aquifersView : List Aquifer → ℕ → View

@@ -2,9 +2,11 @@
 ghost use mathlib.Core.Path.{_≡_};
 ghost use Prim.Native.Nat.{_≤_};
 ghost use Rattle.laws.specs.Signed.{above, below};
+ghost use Rattle.model.specs.Limits.{termLimit};
 ghost use Rattle.river.specs.Flow.{Ready};
 ghost use Rattle.river.specs.Passes.{Flows, Splits};
 ghost use Rattle.river.specs.Units.{unitsView};
+ghost use Rattle.river.specs.Limits.{gatheredLimit};
 ghost use Rattle.figures.specs.Figures as figures;
 ghost use Rattle.figures.specs.Figures.{figuresFrom, aquifersView};
 use crate::AquiferFigures;
@@ -19,7 +21,7 @@ use river::from_own;
 // A unit's figures from what it gathers, what arrives and what is committed.
 fn of_unit(u: Unit, gained: u64, lost: u64, arrived: u64, committed: u64) -> UnitFigures
     requires { ⌜ Splits u committed arrived ⌝ }
-    requires { ⌜ (gained ≤ 2560000000) × (lost ≤ 2560000000) ⌝ }
+    requires { ⌜ (gained ≤ gatheredLimit) × (lost ≤ gatheredLimit) ⌝ }
     ensures { λ r. ⌜ r ≡ figuresFrom u gained lost arrived committed ⌝ }
 {
     let flow = laws::difference(gained, lost);
@@ -75,7 +77,7 @@ pub fn unit_figures<'a>(
 
 // An aquifer's recharge and availability, from what it gains and what it loses.
 pub fn of_aquifer(a: Aquifer) -> AquiferFigures
-    requires { ⌜ (above (a .storage) ≤ 10000000) × (below (a .storage) ≤ 10000000) ⌝ }
+    requires { ⌜ (above (a .storage) ≤ termLimit) × (below (a .storage) ≤ termLimit) ⌝ }
     ensures { λ r. ⌜ r ≡ figures.figuresOf a ⌝ }
 {
     let storage = a.storage;

@@ -5,6 +5,7 @@ ghost use Prim.Native.Nat.{_+_, _≤_};
 ghost use lib.ListN.{length, getD};
 ghost use mathlib.Core.Bool.{true};
 ghost use Rattle.model.specs.View.{viewOf};
+ghost use Rattle.model.specs.Limits.{unitLimit, aquiferLimit};
 ghost use Rattle.basin.specs.Sound.{sound};
 ghost use Rattle.figures.specs.Figures.{noUnitFigures, noAquiferFigures};
 ghost use Rattle.text.specs.Text.{Written};
@@ -27,7 +28,7 @@ fn unit_lines(
     units: [UnitFigures; Balance::UNITS],
     n: usize,
 ) -> usize
-    requires { ⌜ (n ≤ 64) × (at + 8192 ≤ 1064960) ⌝ }
+    requires { ⌜ (n ≤ unitLimit) × (at + 8192 ≤ 1064960) ⌝ }
     ensures { λ r. ⌜ Written 8192 (now (out .entry)) at (text.linesOf n (λ k. text.unitText (getD units k noUnitFigures) k)) (now (out .exit)) r ⌝ }
 {
     let mut p = report::no_line(out, at);
@@ -42,7 +43,7 @@ fn unit_lines(
 
 // The line of the unit at an index.
 fn unit_line(out: &mut [u8; ROOM], at: usize, k: usize, f: UnitFigures) -> usize
-    requires { ⌜ (k ≤ 64) × (at + 128 ≤ 1064960) ⌝ }
+    requires { ⌜ (k ≤ unitLimit) × (at + 128 ≤ 1064960) ⌝ }
     ensures { λ r. ⌜ Written 128 (now (out .entry)) at (text.unitText f k) (now (out .exit)) r ⌝ }
 {
     let flow = f.flow;
@@ -65,7 +66,7 @@ fn aquifer_lines(
     aquifers: [AquiferFigures; Balance::AQUIFERS],
     n: usize,
 ) -> usize
-    requires { ⌜ (n ≤ 32) × (at + 4096 ≤ 1064960) ⌝ }
+    requires { ⌜ (n ≤ aquiferLimit) × (at + 4096 ≤ 1064960) ⌝ }
     ensures { λ r. ⌜ Written 4096 (now (out .entry)) at (text.linesOf n (λ k. text.aquiferText (getD aquifers k noAquiferFigures) k)) (now (out .exit)) r ⌝ }
 {
     let mut p = report::no_line(out, at);
@@ -80,7 +81,7 @@ fn aquifer_lines(
 
 // The line of the aquifer at an index.
 fn aquifer_line(out: &mut [u8; ROOM], at: usize, k: usize, f: AquiferFigures) -> usize
-    requires { ⌜ (k ≤ 32) × (at + 128 ≤ 1064960) ⌝ }
+    requires { ⌜ (k ≤ aquiferLimit) × (at + 128 ≤ 1064960) ⌝ }
     ensures { λ r. ⌜ Written 128 (now (out .entry)) at (text.aquiferText f k) (now (out .exit)) r ⌝ }
 {
     let recharge = f.recharge;

@@ -7,6 +7,7 @@ use Rattle.model.specs.declared.Aquifer.{Aquifer}
 use Rattle.model.specs.declared.Title.the-variants.{UnitWithdrawal}
 use Rattle.model.specs.declared.Place.{Place}
 use Rattle.model.specs.declared.Balance.{Balance}
+use Rattle.model.specs.Limits.{unitLimit, aquiferLimit, titleLimit}
 
 -- A place that holds no unit, no aquifer, no title: all zeros.
 abbrev pub emptyUnit : Unit
@@ -33,10 +34,10 @@ emptyPlace = record { title = UnitWithdrawal 0 0 0; «in_force» = false }
 abbrev pub freshBalance : Balance
 freshBalance =
     record {
-      units = replicate 64 emptyUnit;
+      units = replicate unitLimit emptyUnit;
       «unit_count» = 0;
-      aquifers = replicate 32 emptyAquifer;
+      aquifers = replicate aquiferLimit emptyAquifer;
       «aquifer_count» = 0;
-      titles = replicate 256 emptyPlace;
+      titles = replicate titleLimit emptyPlace;
       given = 0;
     }

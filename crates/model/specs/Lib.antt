@@ -2,3 +2,4 @@
 pub mod Fresh
 pub mod View
 pub mod Answers
+pub mod Limits

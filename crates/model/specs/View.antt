@@ -27,7 +27,3 @@ viewOf b =
       given = b .given;
       place = λ k. getD (b .titles) k emptyPlace;
     }
-
--- The largest term: 10,000,000 thousand m³.
-abbrev pub termLimit : ℕ
-termLimit = 10000000

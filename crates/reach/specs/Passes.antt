@@ -7,12 +7,13 @@ use mathlib.Core.List.{List}
 use lib.Dec.{eqb}
 use lib.ListN.{length, getD}
 use Rattle.model.specs.View.{View}
+use Rattle.model.specs.Limits.{unitLimit}
 use Rattle.river.specs.Flow.{downstream}
 use Rattle.reach.specs.Reach.{outlet}
 
 -- The downstream number of each unit, and 0 in the unused places.
 pub record DownstreamNumbers (v : View) (r : List ℕ) : Type 0 where
-  pub long : length r ≡ 64
+  pub long : length r ≡ unitLimit
   pub each : (j : ℕ) → j < v .units → getD r j 0 ≡ downstream v j
   pub rest : (j : ℕ) → v .units ≤ j → getD r j 0 ≡ 0
 
@@ -32,6 +33,6 @@ belowBy down (suc way) u w = cond (eqb (down u) 0) false (eqb (pred (down u)) w 
 
 -- The outlet of each unit, and 0 in the unused places.
 pub record Outlets (v : View) (r : List ℕ) : Type 0 where
-  pub long : length r ≡ 64
+  pub long : length r ≡ unitLimit
   pub each : (j : ℕ) → j < v .units → getD r j 0 ≡ outlet v j
   pub rest : (j : ℕ) → v .units ≤ j → getD r j 0 ≡ 0

@@ -1,6 +1,7 @@
 // Which units lie below a unit.
 ghost use mathlib.Core.Path.{_≡_};
 ghost use Prim.Native.Nat.{_≤_, _<_};
+ghost use Rattle.model.specs.Limits.{unitLimit};
 ghost use Rattle.river.specs.Flow.{Ready};
 ghost use Rattle.river.specs.Units.{unitsView};
 ghost use Rattle.reach.specs.Reach.{liesBelow};
@@ -10,7 +11,7 @@ use model::Unit;
 
 // The downstream number of each unit, and 0 in the unused places.
 pub fn downs(units: [Unit; Balance::UNITS], n: usize) -> [u8; Balance::UNITS]
-    requires { ⌜ n ≤ 64 ⌝ }
+    requires { ⌜ n ≤ unitLimit ⌝ }
     ensures { λ r. ⌜ DownstreamNumbers (unitsView units n) r ⌝ }
 {
     let mut down = [0u8; Balance::UNITS];
@@ -25,8 +26,8 @@ pub fn downs(units: [Unit; Balance::UNITS], n: usize) -> [u8; Balance::UNITS]
 
 // Unit w lies below u when it is u's downstream unit or lies below that one. The distance from the unit number to 64 falls.
 fn below_from(down: &[u8; Balance::UNITS], u: usize, w: usize) -> bool
-    requires { ⌜ TreeNumbers (listed (now down)) 64 × (u < 64) ⌝ }
-    ensures { λ r. ⌜ r ≡ belowBy (listed (now (down .entry))) 64 u w ⌝ }
+    requires { ⌜ TreeNumbers (listed (now down)) unitLimit × (u < unitLimit) ⌝ }
+    ensures { λ r. ⌜ r ≡ belowBy (listed (now (down .entry))) unitLimit u w ⌝ }
 {
     let d = down[u] as usize;
     if d == 0 {

@@ -8,7 +8,7 @@ use lib.IntN.{ℤ, pos}
 use lib.Signed.{ltZ}
 use Rattle.laws.specs.Signed.{above, below}
 use Rattle.model.specs.declared.Aquifer.{Aquifer}
-use Rattle.model.specs.View.{termLimit}
+use Rattle.model.specs.Limits.{unitLimit, aquiferLimit, termLimit}
 use Rattle.river.specs.Wells.{recharge}
 use Rattle.runoff.specs.Mean.{divisor}
 use Rattle.record.specs.Bytes.{bits32, signedBits32}
@@ -29,7 +29,7 @@ termsOutside extraction exports imports returns evaporation =
 
 -- UN, AC or the description's end closes the open unit: 6 under 20 years, 9 gauged sum negative or above 10,000,000 times the years.
 abbrev pub badGauge : ℕ → ℕ → ℤ → Bool
-badGauge soils years sum = eqb soils 0 && (ltZ sum (pos 0) || ltZ (pos (10000000 * years)) sum)
+badGauge soils years sum = eqb soils 0 && (ltZ sum (pos 0) || ltZ (pos (termLimit * years)) sum)
 
 abbrev pub closingBy : ℕ → ℕ → ℕ → ℤ → ℕ
 closingBy units soils years sum = cond (eqb units 0) 0 (cond (ltb years 20) 6 (cond (badGauge soils years sum) 9 0))
@@ -54,7 +54,7 @@ notOnward downstream own = ltb 0 downstream && leb downstream own
 abbrev pub unitFault : ℕ → ℕ → UnitRecord → ℕ
 unitFault units aquifers u =
     cond (ltb 0 aquifers) 3
-    (cond (leb 64 units) 4
+    (cond (leb unitLimit units) 4
     (cond (unitOutside u) 5
     (cond (notOnward (u .downstream) (units + 1)) 8 0)))
 
@@ -115,7 +115,7 @@ aquiferOutside a =
 -- AC: 4 a 33rd aquifer; 5 a field outside its values; 11 recharge negative.
 abbrev pub aquiferFault : ℕ → Aquifer → ℕ
 aquiferFault aquifers a =
-    cond (leb 32 aquifers) 4 (cond (aquiferOutside a) 5 (cond (ltZ (recharge a) (pos 0)) 11 0))
+    cond (leb aquiferLimit aquifers) 4 (cond (aquiferOutside a) 5 (cond (ltZ (recharge a) (pos 0)) 11 0))
 
 -- What holds of the open unit at every record, since each record that grew it was tested: its numbers are small enough to be added up.
 pub record Sane (u : UnitRecord) : Type 0 where
@@ -135,4 +135,4 @@ pub record YearRange (year : ℤ) : Type 0 where
 pub record Closed (u : UnitRecord) : Type 0 where
   pub sane : Sane u
   pub enough : 20 ≤ u .years
-  pub mean : above (u .sum) ≤ 10000000 * divisor (isGauged u) (u .years)
+  pub mean : above (u .sum) ≤ termLimit * divisor (isGauged u) (u .years)

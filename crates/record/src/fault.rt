@@ -5,6 +5,7 @@ ghost use lib.IntN.{pos};
 ghost use lib.Signed.{ltZ};
 ghost use lib.ListN.{length};
 ghost use Rattle.laws.specs.Signed.{above};
+ghost use Rattle.model.specs.Limits.{termLimit};
 ghost use Rattle.river.specs.Wells.{recharge};
 ghost use Rattle.record.specs.Bytes.{signedBits32};
 ghost use Rattle.record.specs.Fault as faults;
@@ -18,10 +19,11 @@ use model::Balance;
 fn storage_outside(z: i64) -> bool
     ensures { λ r. ⌜ r ≡ faults.notStorage z ⌝ }
 {
-    if laws::above(z) > 10000000 {
+    let term = Balance::TERM as u64;
+    if laws::above(z) > term {
         return true;
     }
-    laws::below(z) > 10000000
+    laws::below(z) > term
 }
 
 // One of the five terms that UN and AF share is above 10,000,000.
@@ -60,7 +62,7 @@ fn bad_sum(soils: u64, years: u64, sum: i64) -> bool
     if laws::below(sum) > 0 {
         return true;
     }
-    laws::above(sum) > 10000000 * years
+    laws::above(sum) > (Balance::TERM as u64) * years
 }
 
 // Closing the open unit: 6 or 9.
@@ -124,7 +126,7 @@ pub fn unit_fault(units: usize, aquifers: usize, u: UnitRecord) -> u8
     if 0 < aquifers {
         return 3;
     }
-    if 64 <= units {
+    if Balance::UNITS <= units {
         return 4;
     }
     if unit_outside(u) {
@@ -300,7 +302,7 @@ fn aquifer_outside(a: Aquifer) -> bool
 
 // The recharge is negative: storage falls by more than the discharges.
 fn negative_recharge(a: Aquifer) -> bool
-    requires { ⌜ above (a .storage) ≤ 10000000 ⌝ }
+    requires { ⌜ above (a .storage) ≤ termLimit ⌝ }
     ensures { λ r. ⌜ r ≡ ltZ (recharge a) (pos 0) ⌝ }
 {
     let storage = a.storage;
@@ -313,7 +315,7 @@ fn negative_recharge(a: Aquifer) -> bool
 pub fn aquifer_fault(aquifers: usize, a: Aquifer) -> u8
     ensures { λ r. ⌜ r ≡ faults.aquiferFault aquifers a ⌝ }
 {
-    if 32 <= aquifers {
+    if Balance::AQUIFERS <= aquifers {
         return 4;
     }
     if aquifer_outside(a) {

@@ -12,7 +12,8 @@ use Rattle.model.specs.declared.Unit.{Unit}
 use Rattle.model.specs.declared.Aquifer.{Aquifer}
 use Rattle.model.specs.declared.Title.{Title}
 use Rattle.model.specs.declared.Title.the-variants.{UnitWithdrawal, AquiferWithdrawal, UnitTransfer, AquiferTransfer}
-use Rattle.model.specs.View.{View, termLimit}
+use Rattle.model.specs.View.{View}
+use Rattle.model.specs.Limits.{termLimit}
 use Rattle.model.specs.Answers.{Refusal, none, number, refuse}
 use Rattle.titles.specs.Adds.{returned}
 use Rattle.river.specs.Flow.{Ready}

@@ -6,8 +6,9 @@ use lib.Signed.{nonNeg}
 use Rattle.laws.specs.Sum.{every}
 use Rattle.model.specs.declared.Title.{Title}
 use Rattle.model.specs.declared.Title.the-variants.{UnitWithdrawal, AquiferWithdrawal, UnitTransfer, AquiferTransfer}
-use Rattle.model.specs.View.{View, termLimit}
+use Rattle.model.specs.View.{View}
 use Rattle.model.specs.Answers.{Refusal, none, refuse}
+use Rattle.model.specs.Limits.{titleLimit, termLimit}
 use Rattle.titles.specs.Adds.{returned}
 use Rattle.river.specs.Flow.{flow}
 use Rattle.river.specs.Reserve.{availability}
@@ -53,7 +54,7 @@ downstreamTransfer v g r = eqb g r || liesBelow v (pred g) (pred r)
 abbrev pub volumeRefusal : View → Title → ℕ → Refusal
 volumeRefusal v t x =
     refuse 14 (not (isVolume x))
-    (refuse 15 (leb 256 (v .given))
+    (refuse 15 (leb titleLimit (v .given))
     (refuse 16 (overfull v t)
     (refuse 17 (noWater (granted v t) t)
     none)))

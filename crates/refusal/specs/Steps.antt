@@ -8,12 +8,13 @@ use Rattle.model.specs.declared.Aquifer.{Aquifer}
 use Rattle.model.specs.declared.Title.{Title}
 use Rattle.model.specs.declared.Title.the-variants.{UnitWithdrawal, AquiferWithdrawal, UnitTransfer, AquiferTransfer}
 use Rattle.model.specs.View.{View}
+use Rattle.model.specs.Limits.{titleLimit}
 use Rattle.basin.specs.Sound.{exists, isVolume, partsView}
 use Rattle.refusal.specs.Grant.{overfull, downstreamTransfer}
 
 -- 14, 15 or 16.
 abbrev pub volumeNumber : ℕ → ℕ → Bool → ℕ
-volumeNumber given volume over = cond (isVolume volume) (cond (leb 256 given) 15 (cond over 16 0)) 14
+volumeNumber given volume over = cond (isVolume volume) (cond (leb titleLimit given) 15 (cond over 16 0)) 14
 
 -- 12 to 16 and 18, of each kind.
 abbrev pub earlyNumber : View → Title → ℕ

@@ -4,6 +4,7 @@ ghost use mathlib.Core.Bool.{_||_};
 ghost use Prim.Native.Nat.{_≤_, _<_, _+_};
 ghost use mathlib.Core.List.{[]};
 ghost use Rattle.model.specs.declared.Title.the-variants.{UnitWithdrawal, AquiferWithdrawal, UnitTransfer, AquiferTransfer};
+ghost use Rattle.model.specs.Limits.{unitLimit, aquiferLimit};
 ghost use Rattle.river.specs.Flow.{Ready};
 ghost use Rattle.river.specs.Units.{unitsView};
 ghost use Rattle.refusal.specs.Grant as grants;
@@ -20,7 +21,7 @@ use model::Unit;
 fn past(entry: u32, more: u32) -> bool
     ensures { λ r. ⌜ r ≡ grants.past (entry + more) ⌝ }
 {
-    (entry as u64) + (more as u64) > 10000000
+    (entry as u64) + (more as u64) > (Balance::TERM as u64)
 }
 
 // One of two entries would pass 10,000,000.
@@ -38,7 +39,7 @@ fn volume_number(given: usize, volume: u32, over: bool) -> u8
     ensures { λ r. ⌜ r ≡ steps.volumeNumber given volume over ⌝ }
 {
     if is_volume(volume) {
-        if 256 <= given {
+        if Balance::TITLES <= given {
             return 15;
         }
         if over {
@@ -58,7 +59,7 @@ fn withdrawal_number(
     usage: u8,
     volume: u32,
 ) -> u8
-    requires { ⌜ n ≤ 64 ⌝ }
+    requires { ⌜ n ≤ unitLimit ⌝ }
     ensures { λ r. ⌜ r ≡ steps.earlyNumber (entriesView units n [] 0 given) (UnitWithdrawal unit usage volume) ⌝ }
 {
     if exists(n, unit) {
@@ -86,7 +87,7 @@ fn pumping_number(
     aquifer: u8,
     volume: u32,
 ) -> u8
-    requires { ⌜ m ≤ 32 ⌝ }
+    requires { ⌜ m ≤ aquiferLimit ⌝ }
     ensures { λ r. ⌜ r ≡ steps.earlyNumber (entriesView [] 0 aquifers m given) (AquiferWithdrawal aquifer volume) ⌝ }
 {
     if exists(m, aquifer) {
@@ -109,7 +110,7 @@ fn bringing_number(
     unit: u8,
     volume: u32,
 ) -> u8
-    requires { ⌜ (n ≤ 64) × (m ≤ 32) ⌝ }
+    requires { ⌜ (n ≤ unitLimit) × (m ≤ aquiferLimit) ⌝ }
     ensures { λ r. ⌜ r ≡ steps.earlyNumber (entriesView units n aquifers m given) (AquiferTransfer aquifer unit volume) ⌝ }
 {
     if exists(m, aquifer) {
@@ -175,7 +176,7 @@ pub fn early(
     given: usize,
     t: Title,
 ) -> u8
-    requires { ⌜ Ready (unitsView units n) × (m ≤ 32) ⌝ }
+    requires { ⌜ Ready (unitsView units n) × (m ≤ aquiferLimit) ⌝ }
     ensures { λ r. ⌜ r ≡ steps.earlyNumber (entriesView units n aquifers m given) t ⌝ }
 {
     match t {

@@ -4,9 +4,11 @@ ghost use mathlib.Core.Bool.{not};
 ghost use lib.Signed.{nonNeg};
 ghost use Prim.Native.Nat.{_≤_, _<_};
 ghost use Rattle.laws.specs.Signed.{above, below};
+ghost use Rattle.model.specs.Limits.{termLimit};
 ghost use Rattle.river.specs.Flow.{Ready};
 ghost use Rattle.river.specs.Units.{unitsView};
 ghost use Rattle.river.specs.Wells.{wellAvailability};
+ghost use Rattle.river.specs.Limits.{gatheredLimit, committedLimit};
 ghost use Rattle.figures.specs.Figures.{WellsReady, aquifersView};
 ghost use Rattle.refusal.specs.Grant as grants;
 ghost use Rattle.effect.specs.Granted.{Named};
@@ -19,7 +21,7 @@ use model::Unit;
 
 // A unit of an outlet's basin with a negative flow or a negative availability: with what is committed it loses more than it gains.
 fn wanting(end: usize, outlet: usize, gained: u64, lost: u64, committed: u64) -> bool
-    requires { ⌜ (lost ≤ 2560000000) × (committed ≤ 2570000000) ⌝ }
+    requires { ⌜ (lost ≤ gatheredLimit) × (committed ≤ committedLimit) ⌝ }
     ensures { λ r. ⌜ r ≡ steps.wantingAmounts end outlet gained lost committed ⌝ }
 {
     if end != outlet {
@@ -53,7 +55,7 @@ fn dry(units: [Unit; Balance::UNITS], n: usize, j: usize) -> bool
 
 // An aquifer with a negative availability.
 fn drained(a: Aquifer) -> bool
-    requires { ⌜ (above (a .storage) ≤ 10000000) × (below (a .storage) ≤ 10000000) ⌝ }
+    requires { ⌜ (above (a .storage) ≤ termLimit) × (below (a .storage) ≤ termLimit) ⌝ }
     ensures { λ r. ⌜ r ≡ not (nonNeg (wellAvailability a)) ⌝ }
 {
     let w = figures::of_aquifer(a);

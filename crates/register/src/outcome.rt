@@ -5,6 +5,7 @@ ghost use lib.ListN.{length};
 ghost use Rattle.model.specs.declared.Answer.the-variants.{Accepted};
 ghost use Rattle.model.specs.View.{viewOf};
 ghost use Rattle.model.specs.Answers.{number};
+ghost use Rattle.model.specs.Limits.{unitLimit, aquiferLimit, titleLimit};
 ghost use Rattle.basin.specs.Sound as sounds;
 ghost use Rattle.effect.specs.Granted.{Sized};
 ghost use Rattle.register.specs.Reply as replies;
@@ -23,7 +24,7 @@ fn lengths(
     aquifers: [Aquifer; Balance::AQUIFERS],
     titles: [Place; Balance::TITLES],
 ) -> bool
-    ensures { λ r. ⌜ (length units ≡ 64) × (length aquifers ≡ 32) × (length titles ≡ 256) ⌝ }
+    ensures { λ r. ⌜ (length units ≡ unitLimit) × (length aquifers ≡ aquiferLimit) × (length titles ≡ titleLimit) ⌝ }
 {
     true
 }
@@ -53,7 +54,7 @@ pub fn perform(b: Balance, c: Call) -> Balance
 
 // The number that an accepted call tells: the next one for a grant, the cancelled one for a cancellation.
 pub fn number_of(given: usize, c: Call) -> u16
-    requires { ⌜ given ≤ 256 ⌝ }
+    requires { ⌜ given ≤ titleLimit ⌝ }
     ensures { λ r. ⌜ r ≡ calls.callNumber given c ⌝ }
 {
     match c {

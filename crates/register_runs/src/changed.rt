@@ -72,7 +72,7 @@ fn with_unit(mut b: Balance, c: Change) -> Balance {
     let to = change::small(c.value);
     let z = change::signed(c.value, c.negative);
     let v = change::word(c.value);
-    if 64 <= i {
+    if Balance::UNITS <= i {
         return b;
     }
     let u = b.units[i];
@@ -86,7 +86,7 @@ fn with_aquifer(mut b: Balance, c: Change) -> Balance {
     let i = change::index(c.second);
     let z = change::signed(c.value, c.negative);
     let v = change::word(c.value);
-    if 32 <= i {
+    if Balance::AQUIFERS <= i {
         return b;
     }
     let a = b.aquifers[i];
@@ -108,7 +108,7 @@ fn with_fifth(mut b: Balance, t: Title) -> Balance {
 // With the title of a number cancelled.
 fn with_cancelled(mut b: Balance, number: u64) -> Balance {
     let i = change::index(number);
-    if 256 <= i {
+    if Balance::TITLES <= i {
         return b;
     }
     let mut place = b.titles[i];

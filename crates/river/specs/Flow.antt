@@ -11,6 +11,8 @@ use Rattle.laws.specs.Gather.{gather}
 use Rattle.laws.specs.Signed.{above, below}
 use Rattle.model.specs.declared.Unit.{Unit}
 use Rattle.model.specs.View.{View}
+use Rattle.model.specs.Limits.{unitLimit, termLimit}
+use Rattle.river.specs.Limits.{gainLimit}
 
 -- The number of the unit that unit j drains into, 0 for an outlet.
 abbrev pub downstream : View → ℕ → ℕ
@@ -43,20 +45,20 @@ gathered v lost j = gather naturals (downstream v) (λ k. part lost (v .unit k))
 
 -- The storage change of a unit is small enough to be added up.
 pub record Small (u : Unit) : Type 0 where
-  pub rise : above (u .storage) ≤ 40000000
-  pub fall : below (u .storage) ≤ 40000000
+  pub rise : above (u .storage) ≤ gainLimit
+  pub fall : below (u .storage) ≤ gainLimit
 
 -- A view whose passes over the tree are safe: at most 64 units, each draining onward within the balance, with entries that can be added up.
 pub record Ready (v : View) : Type 0 where
-  pub few : v .units ≤ 64
+  pub few : v .units ≤ unitLimit
   pub onward : (k : ℕ) → k < v .units → (downstream v k ≡ 0) ⊎ (suc k < downstream v k)
   pub within : (k : ℕ) → k < v .units → downstream v k ≤ v .units
-  pub gains : (k : ℕ) → k < v .units → gain (v .unit k) ≤ 40000000
-  pub losses : (k : ℕ) → k < v .units → loss (v .unit k) ≤ 40000000
-  pub commitments : (k : ℕ) → k < v .units → v .unit k .commitment ≤ 10000000
+  pub gains : (k : ℕ) → k < v .units → gain (v .unit k) ≤ gainLimit
+  pub losses : (k : ℕ) → k < v .units → loss (v .unit k) ≤ gainLimit
+  pub commitments : (k : ℕ) → k < v .units → v .unit k .commitment ≤ termLimit
 
 -- The reply of a pass: what each unit gathers, and 0 in the unused places.
 pub record Gathered (v : View) (lost : Bool) (r : List ℕ) : Type 0 where
-  pub long : length r ≡ 64
+  pub long : length r ≡ unitLimit
   pub each : (j : ℕ) → j < v .units → getD r j 0 ≡ gathered v lost j
   pub rest : (j : ℕ) → v .units ≤ j → getD r j 0 ≡ 0

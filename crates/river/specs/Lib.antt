@@ -4,3 +4,4 @@ pub mod Reserve
 pub mod Wells
 pub mod Passes
 pub mod Units
+pub mod Limits

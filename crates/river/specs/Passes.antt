@@ -7,8 +7,10 @@ use lib.Dec.{eqb}
 use lib.ListN.{length, getD, replicate}
 use Rattle.model.specs.declared.Unit.{Unit}
 use Rattle.model.specs.View.{View}
+use Rattle.model.specs.Limits.{unitLimit}
 use Rattle.river.specs.Flow.{downstream, Gathered}
 use Rattle.river.specs.Reserve.{inflow, demand, share, runningTotal, committed}
+use Rattle.river.specs.Limits.{committedLimit, splitLimit}
 
 -- The running total before a unit at its downstream unit; 0 for an outlet.
 abbrev pub runningBefore : View → ℕ → ℕ
@@ -16,17 +18,17 @@ runningBefore v j = cond (eqb (downstream v j) 0) 0 (runningTotal v (pred (downs
 
 -- The running totals before each unit, and at each unit the total of the units that drain straight into it.
 pub record RunningTotals (v : View) (before arrived : List ℕ) : Type 0 where
-  pub long-before : length before ≡ 64
-  pub long-arrived : length arrived ≡ 64
+  pub long-before : length before ≡ unitLimit
+  pub long-arrived : length arrived ≡ unitLimit
   pub each-before : (j : ℕ) → j < v .units → getD before j 0 ≡ runningBefore v j
   pub each-arrived : (w : ℕ) → w < v .units → getD arrived w 0 ≡ runningTotal v w w
 
 -- The four arrays that the forward pass fills, before it: 0 in every place.
 pub record Clear (g l b a : List ℕ) : Type 0 where
-  pub gained : g ≡ replicate 64 0
-  pub lost : l ≡ replicate 64 0
-  pub before : b ≡ replicate 64 0
-  pub arrived : a ≡ replicate 64 0
+  pub gained : g ≡ replicate unitLimit 0
+  pub lost : l ≡ replicate unitLimit 0
+  pub before : b ≡ replicate unitLimit 0
+  pub arrived : a ≡ replicate unitLimit 0
 
 -- The reply of the forward pass: all that is gained and lost at each unit and above it, the running total before it at its downstream
 -- unit, and the total of the units that drain straight into it.
@@ -37,16 +39,16 @@ pub record Flows (v : View) (g l b a : List ℕ) : Type 0 where
 
 -- The committed volume of each unit, and 0 in the unused places.
 pub record CommittedVolumes (v : View) (r : List ℕ) : Type 0 where
-  pub long : length r ≡ 64
+  pub long : length r ≡ unitLimit
   pub each : (j : ℕ) → j < v .units → getD r j 0 ≡ committed v j
   pub rest : (j : ℕ) → v .units ≤ j → getD r j 0 ≡ 0
 
 -- A demand and its running totals that are small enough to be split: the demand of a unit with so much committed, and the total of so
 -- much arrived and its own inflow.
 pub record Splits (u : Unit) (committed arrived : ℕ) : Type 0 where
-  pub promised : committed ≤ 2570000000
-  pub asked : demand u committed ≤ 2610000000
-  pub small : arrived + inflow u ≤ 2610000000
+  pub promised : committed ≤ committedLimit
+  pub asked : demand u committed ≤ splitLimit
+  pub small : arrived + inflow u ≤ splitLimit
 
 -- What a contributor above, and the unit itself, get of the demand of a unit with so much committed and so much arrived.
 abbrev pub fromBelow : Unit → ℕ → ℕ → ℕ → ℕ → ℕ

@@ -5,6 +5,7 @@ ghost use Rattle.river.specs.Flow.{Ready};
 ghost use Rattle.river.specs.Reserve as reserves;
 ghost use Rattle.river.specs.Passes.{Flows, CommittedVolumes, Splits, fromBelow, fromOwn};
 ghost use Rattle.river.specs.Units.{unitsView};
+ghost use Rattle.river.specs.Limits.{committedLimit, splitLimit};
 ghost use mathlib.Core.Bool.{cond};
 ghost use lib.Dec.{eqb};
 use model::Balance;
@@ -29,7 +30,7 @@ fn inflow(u: Unit) -> u64
 
 // A unit's demand: extraction, exports and committed volume.
 fn demand(u: Unit, committed: u64) -> u64
-    requires { ⌜ committed ≤ 2570000000 ⌝ }
+    requires { ⌜ committed ≤ committedLimit ⌝ }
     ensures { λ r. ⌜ r ≡ reserves.demand u committed ⌝ }
 {
     (u.extraction as u64) + (u.exports as u64) + committed
@@ -37,7 +38,7 @@ fn demand(u: Unit, committed: u64) -> u64
 
 // The floor of what so much contributed gets of a demand. Where nothing is contributed the division is spared.
 fn part(demand: u64, contributed: u64, total: u64) -> u64
-    requires { ⌜ (0 < total) × (demand ≤ 2610000000) × (contributed ≤ 2610000000) ⌝ }
+    requires { ⌜ (0 < total) × (demand ≤ splitLimit) × (contributed ≤ splitLimit) ⌝ }
     ensures { λ r. ⌜ r ≡ demand * contributed / total ⌝ }
 {
     if contributed == 0 {
@@ -48,7 +49,7 @@ fn part(demand: u64, contributed: u64, total: u64) -> u64
 
 // What a contributor gets of a demand: the floor with it less the floor without it.
 fn share(demand: u64, total: u64, without: u64, with: u64) -> u64
-    requires { ⌜ (0 < total) × (demand ≤ 2610000000) × (without ≤ with) × (with ≤ 2610000000) ⌝ }
+    requires { ⌜ (0 < total) × (demand ≤ splitLimit) × (without ≤ with) × (with ≤ splitLimit) ⌝ }
     ensures { λ r. ⌜ r ≡ reserves.share demand total without with ⌝ }
 {
     demand * with / total - part(demand, without, total)
@@ -56,7 +57,7 @@ fn share(demand: u64, total: u64, without: u64, with: u64) -> u64
 
 // What a unit above gets of a demand.
 fn share_above(demand: u64, total: u64, before: u64, own: u64) -> u64
-    requires { ⌜ (demand ≤ 2610000000) × (before + own ≤ total) × (total ≤ 2610000000) ⌝ }
+    requires { ⌜ (demand ≤ splitLimit) × (before + own ≤ total) × (total ≤ splitLimit) ⌝ }
     ensures { λ r. ⌜ r ≡ cond (eqb total 0) 0 (reserves.share demand total before (before + own)) ⌝ }
 {
     if total == 0 {
@@ -67,7 +68,7 @@ fn share_above(demand: u64, total: u64, before: u64, own: u64) -> u64
 
 // What a unit gets of its own demand: what the units above leave of it.
 fn share_own(demand: u64, total: u64, before: u64) -> u64
-    requires { ⌜ (demand ≤ 2610000000) × (before ≤ total) × (total ≤ 2610000000) ⌝ }
+    requires { ⌜ (demand ≤ splitLimit) × (before ≤ total) × (total ≤ splitLimit) ⌝ }
     ensures { λ r. ⌜ r ≡ cond (eqb total 0) demand (reserves.share demand total before total) ⌝ }
 {
     if total == 0 {

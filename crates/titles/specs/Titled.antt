@@ -11,25 +11,26 @@ use Rattle.titles.specs.declared.Slot.{Slot}
 use Rattle.titles.specs.declared.Slot.the-variants.{Extraction, Exports, Imports, Returns, WellExtraction}
 use Rattle.titles.specs.declared.Sums.{Sums}
 use Rattle.model.specs.declared.Title.{Title}
+use Rattle.model.specs.Limits.{unitLimit, titleLimit}
 use Rattle.titles.specs.Adds.{placeAdds}
 use Rattle.titles.specs.Posting.{titlePosting}
 
 -- Sixty-four sums, one for each index: what the first n places of a list add together to an entry of the unit or aquifer there.
 pub record Titled (titles : List Place) (n : ℕ) (s : Slot) (r : List ℕ) : Type 0 where
-  pub places : length r ≡ 64
-  pub sums : (j : ℕ) → j < 64 → getD r j 0 ≡ sumOf naturals n (λ k. placeAdds (getD titles k emptyPlace) s j)
-  pub within : (j : ℕ) → j < 64 → getD r j 0 ≤ n * 4294967295
+  pub places : length r ≡ unitLimit
+  pub sums : (j : ℕ) → j < unitLimit → getD r j 0 ≡ sumOf naturals n (λ k. placeAdds (getD titles k emptyPlace) s j)
+  pub within : (j : ℕ) → j < unitLimit → getD r j 0 ≤ n * 4294967295
 
 -- Sixty-four amounts that have room for one more posting each.
 pub record Roomy (xs : List ℕ) : Type 0 where
-  pub places : length xs ≡ 64
-  pub room : (j : ℕ) → j < 64 → getD xs j 0 ≤ 256 * 4294967295
+  pub places : length xs ≡ unitLimit
+  pub room : (j : ℕ) → j < unitLimit → getD xs j 0 ≤ titleLimit * 4294967295
 
 -- The amount of one posting, a number of 32 bits, is added at its number, and nowhere else.
 pub record Raised (xs : List ℕ) (number amount : ℕ) (r : List ℕ) : Type 0 where
-  pub places : length r ≡ 64
+  pub places : length r ≡ unitLimit
   pub within : amount ≤ 4294967295
-  pub sums : (j : ℕ) → j < 64 → getD r j 0 ≡ getD xs j 0 + only naturals (eqb number (suc j)) amount
+  pub sums : (j : ℕ) → j < unitLimit → getD r j 0 ≡ getD xs j 0 + only naturals (eqb number (suc j)) amount
 
 -- The sums of one entry, among those of all five.
 abbrev pub sumsOf : Sums → Slot → List ℕ

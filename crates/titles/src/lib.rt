@@ -56,7 +56,7 @@ fn raise(sums: &mut [u64; Balance::UNITS], number: u8, amount: u32)
     if number < 1 {
         return;
     }
-    if 64 < number {
+    if Balance::UNITS < (number as usize) {
         return;
     }
     let place = (number - 1) as usize;
