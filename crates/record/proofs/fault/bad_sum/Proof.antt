@@ -28,6 +28,9 @@ returns-2 c =
 above-requires : tie.Need-above-requires
 above-requires c κs = search needs
 
+cast-result : tie.Need-cast-result
+cast-result c = search needs
+
 mul-result : tie.Need-mul-result
 mul-result c = search needs
 
@@ -43,4 +46,4 @@ returns-3 c =
 
 pub bad-sum-spec : {M : Type 1} → statement M
 bad-sum-spec =
-    tie.close (tie.spec returns below-requires returns-2 above-requires mul-result returns-3)
+    tie.close (tie.spec returns below-requires returns-2 above-requires cast-result mul-result returns-3)

@@ -10,6 +10,9 @@ use borrow.Author.Needs.{needs}
 use Rattle.record.proofs.fault.storage_outside.Statement.{statement}
 use Rattle.record.proofs.fault.storage_outside.Tie as tie
 
+cast-term : tie.Need-cast-term
+cast-term c = search needs
+
 above-requires : tie.Need-above-requires
 above-requires c κs = search needs
 
@@ -29,4 +32,4 @@ returns-2 c =
     (ap (ltb 10000000) (below-read (start .args .z) (start .fits .z) (c .below .ensures)))
 
 pub storage-outside-spec : {M : Type 1} → statement M
-storage-outside-spec = tie.close (tie.spec above-requires returns below-requires returns-2)
+storage-outside-spec = tie.close (tie.spec cast-term above-requires returns below-requires returns-2)
