@@ -19,11 +19,11 @@ use Rattle.model.specs.Answers.{firstFrom, first}
 use Rattle.model.specs.Fresh.{emptyUnit, emptyAquifer}
 use Rattle.model.specs.View.{viewOf}
 use Rattle.river.specs.Flow.{downstream, flow, gain, loss}
+use Rattle.runoff.specs.Record.{gaugedOn, sumOn}
 use Rattle.runoff.proofs.Rounding.{natural-within}
-use Rattle.record.specs.declared.UnitRecord.{UnitRecord}
-use Rattle.record.specs.Record.{unitOf, noUnit, isGauged}
+use Rattle.record.specs.Described.{DescribedUnit, noUnit, summed, unitOf}
 use Rattle.record.specs.Fault.{Closed, closingFault}
-use Rattle.book.specs.Reading.{Description, lastUnit, balanceOf, Outcome, read, faultAt, ended, openedAs}
+use Rattle.book.specs.Reading.{Description, lastUnit, lastSums, balanceOf, Outcome, read, faultAt, ended, openedAs}
 use Rattle.book.specs.Opening.{draft, missing, negative, unlessAt, testedWith, endedWith, Bounded, EndReady}
 use Rattle.record.proofs.Clean.{Fine, closing-clean}
 use Rattle.book.proofs.Growing.{Good, all-closed, full-is}
@@ -71,42 +71,42 @@ tested-is d at good =
 
 -- The end of a description, from the balance under construction.
 pub ended-is : (d : Description) (at : ℕ) → Good d
-    → endedWith (draft d) (lastUnit d) (length (d .units)) (length (d .aquifers)) at ≡ openedAs (ended d at)
+    → endedWith (draft d) (lastSums d) (length (d .units)) (length (d .aquifers)) at ≡ openedAs (ended d at)
 ended-is d at good =
-    let c = closingFault (length (d .units)) (lastUnit d) in
+    let c = closingFault (length (d .units)) (lastSums d) in
     by-eq c 0
     (λ e. rw (eq-eqb c 0 e) (ap (λ (b : Balance). testedWith b at) (full-is d good) ∙ tested-is d at good))
     (λ e. rw (ne-eqb c 0 e))
 
 -- The entries of a closed unit can be added up.
-bounded-is : (d : Description) → Good d → closingFault (length (d .units)) (lastUnit d) ≡ 0 → Bounded (viewOf (balanceOf d))
+bounded-is : (d : Description) → Good d → closingFault (length (d .units)) (lastSums d) ≡ 0 → Bounded (viewOf (balanceOf d))
 bounded-is d good e =
     record {
       few = good .few;
       onward = λ k h. subst⁻¹ (λ (u : Unit). (u .downstream ≡ 0) ⊎ (suc k < u .downstream)) (unit-at d good k h) (good .fine k h .onward);
-      gains = λ k h. subst⁻¹ (λ (u : Unit). gain u ≤ 40000000) (unit-at d good k h) (gains k (good .fine k h) (all-closed d good [] e k h));
-      losses = λ k h. subst⁻¹ (λ (u : Unit). loss u ≤ 40000000) (unit-at d good k h) (losses k (good .fine k h));
+      gains = λ k h. subst⁻¹ (λ (u : Unit). gain u ≤ 40000000) (unit-at d good k h) (gains k (getD (d .units) k noUnit) (good .fine k h) (all-closed d good e k h));
+      losses = λ k h. subst⁻¹ (λ (u : Unit). loss u ≤ 40000000) (unit-at d good k h) (losses k (getD (d .units) k noUnit) (good .fine k h));
       commitments = λ k h. subst⁻¹ (λ (u : Unit). u .commitment ≤ 10000000) (unit-at d good k h) (good .fine k h .commitment);
     }
   where
-    gains : (k : ℕ) → {u : UnitRecord} → Fine k u → Closed u → gain (unitOf u) ≤ 40000000
-    gains k {u} f c =
+    gains : (k : ℕ) (u : DescribedUnit) → Fine k (summed u) → Closed (summed u) → gain (unitOf u) ≤ 40000000
+    gains k u f c =
         omega (
           arith,
           f .imports,
           f .returns,
           f .storage .fall,
-          natural-within (isGauged u) (u .years) (u .sum) (omega (arith, c .enough)) (c .mean),
+          natural-within (gaugedOn (u .plots)) (length (u .years)) (sumOn (u .plots) (u .years)) (omega (arith, c .enough)) (c .mean),
         )
 
-    losses : (k : ℕ) → {u : UnitRecord} → Fine k u → loss (unitOf u) ≤ 40000000
-    losses k f = omega (arith, f .exports, f .extraction, f .evaporation, f .storage .rise)
+    losses : (k : ℕ) (u : DescribedUnit) → Fine k (summed u) → loss (unitOf u) ≤ 40000000
+    losses k u f = omega (arith, f .exports, f .extraction, f .evaporation, f .storage .rise)
 
-pub end-ready : (d : Description) → Good d → EndReady (draft d) (lastUnit d) (length (d .units)) (length (d .aquifers))
+pub end-ready : (d : Description) → Good d → EndReady (draft d) (lastSums d) (length (d .units)) (length (d .aquifers))
 end-ready d good =
     record {
       room = good .few;
       sane = good .sane;
       full = λ e. subst⁻¹ (λ (b : Balance). Bounded (viewOf b)) (full-is d good) (bounded-is d good e);
-      closed = λ e n. closing-clean (length (d .units)) (lastUnit d) e n (good .sane);
+      closed = λ e n. closing-clean (length (d .units)) (lastSums d) e n (good .sane);
     }

@@ -1,6 +1,6 @@
 -- A description grows record by record, and the balance under construction with it. Assumes nothing.
-use Prim.Native.Nat.{ℕ, suc, _-_, _≤_, _<_}
-use mathlib.Core.Path.{_≡_, refl, sym, ap, _∙_}
+use Prim.Native.Nat.{ℕ, suc, _+_, _-_, _≤_, _<_}
+use mathlib.Core.Path.{_≡_, refl, sym, ap, subst⁻¹, _∙_}
 use mathlib.Core.List.{List, [], _∷_, _++_}
 use lib.ListN.{length, getD, set, length-set, length-append, List·getD-append}
 use lib.Seq.{getD-append-seam, getD-set-same, getD-set-other}
@@ -14,11 +14,14 @@ use Rattle.model.specs.declared.Aquifer.{Aquifer}
 use Rattle.model.specs.declared.Balance.{Balance}
 use Rattle.model.specs.Fresh.{emptyUnit, emptyAquifer}
 use Rattle.record.specs.declared.UnitRecord.{UnitRecord}
-use Rattle.record.specs.Record.{unitOf, noUnit}
+use Rattle.record.specs.Bytes.{bits8}
+use Rattle.record.specs.Record.{markOf}
+use Rattle.record.specs.Described.{DescribedUnit, unitAt, noUnit, summed, unitOf}
 use Rattle.record.specs.Fault.{Sane, Closed, closingFault}
-use Rattle.book.specs.Reading.{Description, lastUnit, withUnit, withLast, withAquifer, balanceOf}
+use Rattle.book.specs.Reading.{Description, lastUnit, lastSums, grownAt, withUnit, withLast, withAquifer, balanceOf}
 use Rattle.book.specs.Opening.{putAquifer, counted, stored, fullOf, draft}
 use Rattle.record.proofs.Clean.{Fine, WellFine, closing-clean}
+use Rattle.record.proofs.Summing.{summed-none}
 use Rattle.book.proofs.Facts.{OpensFacts, GrowsFacts, AddsFacts}
 
 -- One element more at the end of a list.
@@ -36,9 +39,9 @@ module _ {A : Type 0} (xs : List A) (x d : A) where
 pub record Good (d : Description) : Type 0 where
   pub few : length (d .units) ≤ 64
   pub many : length (d .aquifers) ≤ 32
-  pub fine : (k : ℕ) → k < length (d .units) → Fine k (getD (d .units) k noUnit)
-  pub closed : (k : ℕ) → suc k < length (d .units) → Closed (getD (d .units) k noUnit)
-  pub sane : Sane (lastUnit d)
+  pub fine : (k : ℕ) → k < length (d .units) → Fine k (summed (getD (d .units) k noUnit))
+  pub closed : (k : ℕ) → suc k < length (d .units) → Closed (summed (getD (d .units) k noUnit))
+  pub sane : Sane (lastSums d)
   pub wells : (k : ℕ) → k < length (d .aquifers) → WellFine (getD (d .aquifers) k emptyAquifer)
 
 pub good-start : Good (record { units = []; aquifers = [] })
@@ -48,23 +51,27 @@ good-start =
       many = omega arith;
       fine = λ k h. absurd (omega arith);
       closed = λ k h. absurd (omega arith);
-      sane = record { few = omega arith; area = omega arith; weight = omega arith; short = omega arith; gains = omega arith; losses = omega arith };
+      sane =
+          subst⁻¹ Sane summed-none
+          (record { few = omega arith; area = omega arith; weight = omega arith; short = omega arith; gains = omega arith; losses = omega arith; rain = λ n. refl });
       wells = λ k h. absurd (omega arith);
     }
 
-module _ (d : Description) (good : Good d) (s : List ℕ) where
+module _ (d : Description) (good : Good d) where
   -- Once the open unit closes, every unit is closed.
-  pub all-closed : closingFault (length (d .units)) (lastUnit d) ≡ 0 → (k : ℕ) → k < length (d .units) → Closed (getD (d .units) k noUnit)
+  pub all-closed : closingFault (length (d .units)) (lastSums d) ≡ 0 → (k : ℕ) → k < length (d .units) → Closed (summed (getD (d .units) k noUnit))
   all-closed e k h =
       by-lt (suc k) (length (d .units))
       (λ g. good .closed k g)
       (λ g.
       let q : k ≡ length (d .units) - 1 = omega arith in
-      rw q (closing-clean (length (d .units)) (lastUnit d) e (omega arith) (good .sane)))
+      rw q (closing-clean (length (d .units)) (lastSums d) e (omega arith) (good .sane)))
 
-  pub good-unit : (v : UnitRecord) (to : ℕ) → OpensFacts s (lastUnit d) (length (d .units)) (length (d .aquifers)) v to → Good (withUnit d v)
-  good-unit v to f =
+  module _ (s : List ℕ) (at : ℕ) where
+    pub good-unit : (w : UnitRecord) (to : ℕ) → OpensFacts s at (lastUnit d) (length (d .units)) (length (d .aquifers)) w to → Good (withUnit d (unitAt s at))
+    good-unit w to f =
       let us = d .units in
+      let v = unitAt s at in
       let l = snoc-length us v noUnit in
       record {
         few = omega (arith, l, f .clean .room);
@@ -78,9 +85,11 @@ module _ (d : Description) (good : Good d) (s : List ℕ) where
         wells = good .wells;
       }
 
-  pub good-last : (v : UnitRecord) (to : ℕ) → GrowsFacts s (lastUnit d) (length (d .units)) v to → Good (withLast d v)
-  good-last v to f =
+    pub good-last : (w : UnitRecord) (to : ℕ) → GrowsFacts s at (markOf (bits8 s at) (bits8 s (at + 1))) (lastUnit d) (length (d .units)) w to
+        → Good (withLast d (grownAt s at d))
+    good-last w to f =
       let us = d .units in
+      let v = grownAt s at d in
       let i = length us - 1 in
       let l = length-set us i v in
       let some : i < length us = omega (arith, f .after) in
@@ -96,8 +105,8 @@ module _ (d : Description) (good : Good d) (s : List ℕ) where
         wells = good .wells;
       }
 
-  pub good-aquifer : (a : Aquifer) (to : ℕ) → AddsFacts s (lastUnit d) (length (d .units)) (length (d .aquifers)) a to → Good (withAquifer d a)
-  good-aquifer a to f =
+    pub good-aquifer : (a : Aquifer) (to : ℕ) → AddsFacts s (lastUnit d) (length (d .units)) (length (d .aquifers)) a to → Good (withAquifer d a)
+    good-aquifer a to f =
       let ws = d .aquifers in
       let l = snoc-length ws a emptyAquifer in
       record {
@@ -113,11 +122,11 @@ module _ (d : Description) (good : Good d) (s : List ℕ) where
       }
 
 -- The units and aquifers that a description gives, by their index.
-abbrev unitAt : Description → ℕ → Unit
-unitAt d k = unitOf (getD (d .units) k noUnit)
+abbrev unitIn : Description → ℕ → Unit
+unitIn d k = unitOf (getD (d .units) k noUnit)
 
-abbrev wellAt : Description → ℕ → Aquifer
-wellAt d k = getD (d .aquifers) k emptyAquifer
+abbrev wellIn : Description → ℕ → Aquifer
+wellIn d k = getD (d .aquifers) k emptyAquifer
 
 -- A balance with other units, with other aquifers.
 abbrev withUnits : Balance → List Unit → Balance
@@ -144,15 +153,15 @@ withWells b ws =
 
 -- The open unit put in completes the table of units.
 units-stored : (d : Description) → length (d .units) ≤ 64
-    → stored (draft d) (lastUnit d) (length (d .units)) ≡ withUnits (draft d) (table 64 emptyUnit (length (d .units)) (unitAt d))
+    → stored (draft d) (lastSums d) (length (d .units)) ≡ withUnits (draft d) (table 64 emptyUnit (length (d .units)) (unitIn d))
 units-stored d h =
     by-eq (length (d .units)) 0
     (λ e. rw (eq-eqb (length (d .units)) 0 e)
-    (ap (withUnits (draft d)) (λ i. table 64 emptyUnit (none e i) (unitAt d))))
+    (ap (withUnits (draft d)) (λ i. table 64 emptyUnit (none e i) (unitIn d))))
     (λ e. rw (ne-eqb (length (d .units)) 0 e)
     (ap (withUnits (draft d))
-    (table-more 64 emptyUnit (length (d .units) - 1) (unitAt d) (unitOf (lastUnit d)) (omega arith) refl
-    ∙ (λ i. table 64 emptyUnit (one e i) (unitAt d)))))
+    (table-more 64 emptyUnit (length (d .units) - 1) (unitIn d) (unitOf (lastUnit d)) (omega arith) refl
+    ∙ (λ i. table 64 emptyUnit (one e i) (unitIn d)))))
   where
     none : length (d .units) ≡ 0 → length (d .units) - 1 ≡ length (d .units)
     none e = omega arith
@@ -162,33 +171,33 @@ units-stored d h =
 
 module _ (d : Description) (good : Good d) where
   -- The balance under construction with the open unit in and all counted is the description's.
-  pub full-is : fullOf (draft d) (lastUnit d) (length (d .units)) (length (d .aquifers)) ≡ balanceOf d
+  pub full-is : fullOf (draft d) (lastSums d) (length (d .units)) (length (d .aquifers)) ≡ balanceOf d
   full-is = ap (λ (b : Balance). counted b (length (d .units)) (length (d .aquifers))) (units-stored d (good .few))
 
-  pub draft-unit : (v : UnitRecord) → length (d .units) < 64 → draft (withUnit d v) ≡ stored (draft d) (lastUnit d) (length (d .units))
+  pub draft-unit : (v : DescribedUnit) → length (d .units) < 64 → draft (withUnit d v) ≡ stored (draft d) (lastSums d) (length (d .units))
   draft-unit v h =
       let us = d .units in
       ap (withUnits (draft d))
-      ((λ i. table 64 emptyUnit (less i) (unitAt (withUnit d v)))
-      ∙ table-same 64 emptyUnit (length us) (unitAt (withUnit d v)) (unitAt d) (good .few) (λ k g. ap unitOf (snoc-before us v noUnit k g)))
+      ((λ i. table 64 emptyUnit (less i) (unitIn (withUnit d v)))
+      ∙ table-same 64 emptyUnit (length us) (unitIn (withUnit d v)) (unitIn d) (good .few) (λ k g. ap unitOf (snoc-before us v noUnit k g)))
       ∙ sym (units-stored d (good .few))
     where
       less : length (d .units ++ (v ∷ [])) - 1 ≡ length (d .units)
       less = omega (arith, snoc-length (d .units) v noUnit)
 
-  pub draft-last : (v : UnitRecord) → draft (withLast d v) ≡ draft d
+  pub draft-last : (v : DescribedUnit) → draft (withLast d v) ≡ draft d
   draft-last v =
       let us = d .units in
       ap (withUnits (draft d))
-      ((λ i. table 64 emptyUnit (length-set us (length us - 1) v i - 1) (unitAt (withLast d v)))
-      ∙ table-same 64 emptyUnit (length us - 1) (unitAt (withLast d v)) (unitAt d) (omega (arith, good .few))
+      ((λ i. table 64 emptyUnit (length-set us (length us - 1) v i - 1) (unitIn (withLast d v)))
+      ∙ table-same 64 emptyUnit (length us - 1) (unitIn (withLast d v)) (unitIn d) (omega (arith, good .few))
       (λ k g. ap unitOf (getD-set-other us (length us - 1) k v noUnit (omega arith))))
 
   pub draft-aquifer : (a : Aquifer) → length (d .aquifers) < 32 → draft (withAquifer d a) ≡ putAquifer (draft d) (length (d .aquifers)) a
   draft-aquifer a h =
       let ws = d .aquifers in
       ap (withWells (draft d))
-      ((λ i. table 32 emptyAquifer (snoc-length ws a emptyAquifer i) (wellAt (withAquifer d a)))
-      ∙ sym (table-more 32 emptyAquifer (length ws) (wellAt (withAquifer d a)) a h (sym (snoc-last ws a emptyAquifer (length ws) refl)))
+      ((λ i. table 32 emptyAquifer (snoc-length ws a emptyAquifer i) (wellIn (withAquifer d a)))
+      ∙ sym (table-more 32 emptyAquifer (length ws) (wellIn (withAquifer d a)) a h (sym (snoc-last ws a emptyAquifer (length ws) refl)))
       ∙ ap (λ (l : List Aquifer). set l (length ws) a)
-      (table-same 32 emptyAquifer (length ws) (wellAt (withAquifer d a)) (wellAt d) (omega arith) (λ k g. snoc-before ws a emptyAquifer k g)))
+      (table-same 32 emptyAquifer (length ws) (wellIn (withAquifer d a)) (wellIn d) (omega arith) (λ k g. snoc-before ws a emptyAquifer k g)))

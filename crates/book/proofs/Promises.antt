@@ -26,6 +26,7 @@ use Rattle.titles.specs.declared.Slot.the-variants.{Extraction, Exports, Import
 use Rattle.river.specs.Flow.{flow}
 use Rattle.river.specs.Wells.{recharge}
 use Rattle.river.proofs.Firsts.{nothing-passed}
+use Rattle.runoff.specs.Record.{gaugedOn, sumOn}
 use Rattle.runoff.proofs.Rounding.{natural-within}
 use Rattle.basin.specs.Sound.{sound}
 use Rattle.basin.proofs.Soundness.{UnitSound, AquiferSound, sound-of, fresh-sound}
@@ -36,9 +37,10 @@ use Rattle.book.specs.declared.Opened.{Opened}
 use Rattle.book.specs.declared.Next.{Next}
 use Rattle.book.specs.declared.Next.the-variants.{Ends, Refused, Opens, Grows, Adds}
 use Rattle.record.specs.Bytes.{bits8, bits16, bits32}
-use Rattle.record.specs.Record.{markOf, unitRecord, aquiferRecord, unitOf, noUnit, isGauged}
+use Rattle.record.specs.Record.{markOf, unitRecord, aquiferRecord}
+use Rattle.record.specs.Described.{DescribedUnit, noUnit, summed, unitOf}
 use Rattle.record.specs.Fault.{Closed, closingFault, unitFault, soilFault, rainFault, gaugeFault, aquiferFault, gaugeOutsideAt}
-use Rattle.book.specs.Reading.{Description, lastUnit, balanceOf, marked, next, Outcome, read, refused, faultAt, ended, readingFrom, reading, openedAs, opened}
+use Rattle.book.specs.Reading.{Description, lastUnit, lastSums, balanceOf, marked, next, Outcome, read, refused, faultAt, ended, readingFrom, reading, openedAs, opened}
 use Rattle.record.proofs.Clean.{Fine, WellFine}
 use Rattle.book.proofs.Facts.{Facts, next-facts, through-unless, through-whole}
 use Rattle.book.proofs.Growing.{Good, good-start, good-unit, good-last, good-aquifer, all-closed}
@@ -91,7 +93,7 @@ module _ (s : List ℕ) (at : ℕ) (u : UnitRecord) (units aquifers : ℕ) where
 
 -- What the record at an offset does to a description.
 abbrev nextOf : List ℕ → ℕ → Description → Next
-nextOf s at d = next s at (lastUnit d) (length (d .units)) (length (d .aquifers))
+nextOf s at d = next s at (lastSums d) (length (d .units)) (length (d .aquifers))
 
 -- One record more, where the rest is the same under both allowances.
 one-more : (f g : ℕ) (s : List ℕ) (at : ℕ) (d : Description)
@@ -110,7 +112,7 @@ same-reading zero g s at d h k = absurd (omega arith)
 same-reading (suc f) zero s at d h k = absurd (omega arith)
 same-reading (suc f) (suc g) s at d h k =
     one-more f g s at d (λ to x a b. same-reading f g s to x (omega arith) (omega arith)) (nextOf s at d) refl
-    (next-onward s at (lastUnit d) (length (d .units)) (length (d .aquifers)))
+    (next-onward s at (lastSums d) (length (d .units)) (length (d .aquifers)))
 
 -- The allowance of records never runs out: reading with any larger allowance gives the same.
 pub enough-records : (s : List ℕ) (e : ℕ) → readingFrom (length s + 1 + e) s 0 (record { units = []; aquifers = [] }) ≡ reading s
@@ -121,7 +123,7 @@ abbrev SoundAfter : Outcome → Type 0
 SoundAfter o = sound (viewOf (openedAs o .balance)) ≡ true
 
 -- A fine unit that closed, and that drains within the balance, is sound.
-unit-is-sound : (n k : ℕ) (u : UnitRecord) → Fine k u → Closed u → u .downstream ≤ n → UnitSound n k (unitOf u)
+unit-is-sound : (n k : ℕ) (u : DescribedUnit) → Fine k (summed u) → Closed (summed u) → u .downstream ≤ n → UnitSound n k (unitOf u)
 unit-is-sound n k u f c h =
     record {
       extraction = f .extraction;
@@ -132,7 +134,7 @@ unit-is-sound n k u f c h =
       rise = f .storage .rise;
       fall = f .storage .fall;
       commitment = f .commitment;
-      runoff = natural-within (isGauged u) (u .years) (u .sum) (omega (arith, c .enough)) (c .mean);
+      runoff = natural-within (gaugedOn (u .plots)) (length (u .years)) (sumOn (u .plots) (u .years)) (omega (arith, c .enough)) (c .mean);
       onward = f .onward;
       within = h;
       outlet = f .inner;
@@ -151,7 +153,7 @@ well-is-sound a f =
     }
 
 module _ (d : Description) (good : Good d) where
-  description-sound : closingFault (length (d .units)) (lastUnit d) ≡ 0
+  description-sound : closingFault (length (d .units)) (lastSums d) ≡ 0
       → first (length (d .units)) (λ j. ltb (length (d .units)) (getD (d .units) j noUnit .downstream)) ≡ Nothing
       → first (length (d .units)) (λ j. not (nonNeg (flow (viewOf (balanceOf d)) j))) ≡ Nothing
       → sound (viewOf (balanceOf d)) ≡ true
@@ -162,7 +164,7 @@ module _ (d : Description) (good : Good d) where
         few-aquifers = good .many;
         few-titles = omega arith;
         unit = λ j h. subst⁻¹ (UnitSound (length (d .units)) j) (unit-at d good j h)
-            (unit-is-sound (length (d .units)) j _ (good .fine j h) (all-closed d good [] e j h) (ltb-false _ _ (nothing-passed _ _ m j h)));
+            (unit-is-sound (length (d .units)) j _ (good .fine j h) (all-closed d good e j h) (ltb-false _ _ (nothing-passed _ _ m j h)));
         aquifer = λ j h. subst⁻¹ AquiferSound (well-at d good j h) (well-is-sound _ (good .wells j h));
         flowing = λ j h. not-false _ (nothing-passed _ _ f j h);
         place = λ k h. absurd (omega arith);
@@ -182,7 +184,7 @@ negative d = first (length (d .units)) (λ j. not (nonNeg (flow (viewOf (balance
 
 -- What holds of every refusal, and of every description that passes the tests at its end, holds of what reading gives.
 module _ (P : Outcome → Type 0) (fails : (n p : ℕ) → P (refused n p))
-    (reads : (d : Description) → Good d → closingFault (length (d .units)) (lastUnit d) ≡ 0 → missing d ≡ Nothing → negative d ≡ Nothing
+    (reads : (d : Description) → Good d → closingFault (length (d .units)) (lastSums d) ≡ 0 → missing d ≡ Nothing → negative d ≡ Nothing
     → (at : ℕ) → P (read d at))
   where
     through-fault : (n : ℕ) (f : Found) (rest : Outcome) → (f ≡ Nothing → P rest) → P (faultAt n f rest)
@@ -191,7 +193,7 @@ module _ (P : Outcome → Type 0) (fails : (n p : ℕ) → P (refused n p))
 
     through-end : (d : Description) → Good d → (at : ℕ) → P (ended d at)
     through-end d good at =
-        let c = closingFault (length (d .units)) (lastUnit d) in
+        let c = closingFault (length (d .units)) (lastSums d) in
         by-eq c 0
         (λ e. rw (eq-eqb c 0 e)
         (through-fault 8 (missing d) _ (λ m. through-fault 10 (negative d) _ (λ f. reads d good e m f at))))
@@ -199,12 +201,12 @@ module _ (P : Outcome → Type 0) (fails : (n p : ℕ) → P (refused n p))
 
     one-record : (f : ℕ) (s : List ℕ) (at : ℕ) (d : Description) → Good d
         → ((to : ℕ) (x : Description) → to ≤ length s → Good x → P (readingFrom f s to x))
-        → (n : Next) → nextOf s at d ≡ n → Facts s (lastUnit d) (length (d .units)) (length (d .aquifers)) n → P (readingFrom (suc f) s at d)
+        → (n : Next) → nextOf s at d ≡ n → Facts s at (lastUnit d) (length (d .units)) (length (d .aquifers)) n → P (readingFrom (suc f) s at d)
     one-record f s at d good rest Ends e t = subst⁻¹ P (from-ends f s at d e) (through-end d good at)
     one-record f s at d good rest (Refused n p) e t = subst⁻¹ P (from-refused f s at d n p e) (fails n p)
-    one-record f s at d good rest (Opens u to) e t = subst⁻¹ P (from-opens f s at d u to e) (rest to _ (t .within) (good-unit d good s u to t))
-    one-record f s at d good rest (Grows u to) e t = subst⁻¹ P (from-grows f s at d u to e) (rest to _ (t .within) (good-last d good s u to t))
-    one-record f s at d good rest (Adds a to) e t = subst⁻¹ P (from-adds f s at d a to e) (rest to _ (t .within) (good-aquifer d good s a to t))
+    one-record f s at d good rest (Opens u to) e t = subst⁻¹ P (from-opens f s at d u to e) (rest to _ (t .within) (good-unit d good s at u to t))
+    one-record f s at d good rest (Grows u to) e t = subst⁻¹ P (from-grows f s at d u to e) (rest to _ (t .within) (good-last d good s at u to t))
+    one-record f s at d good rest (Adds a to) e t = subst⁻¹ P (from-adds f s at d a to e) (rest to _ (t .within) (good-aquifer d good s at a to t))
 
     all-records : (f : ℕ) (s : List ℕ) (at : ℕ) (d : Description) → at ≤ length s → Good d → P (readingFrom f s at d)
     unfolding readingFrom
@@ -226,12 +228,12 @@ opened-sound s o e = ap (λ (x : Opened). sound (viewOf (x .balance))) e ∙ ope
 
 -- Every unit of the description, where there is one, is closed.
 abbrev AllClosed : Outcome → Type 0
-AllClosed (read d at) = (k : ℕ) → k < length (d .units) → Closed (getD (d .units) k noUnit)
+AllClosed (read d at) = (k : ℕ) → k < length (d .units) → Closed (summed (getD (d .units) k noUnit))
 AllClosed (refused n p) = Unit {0}
 
 -- Each unit of an accepted description is closed: it has 20 to 50 years.
-pub units-closed : (s : List ℕ) (d : Description) (at : ℕ) → reading s ≡ read d at → (k : ℕ) → k < length (d .units) → Closed (getD (d .units) k noUnit)
-units-closed s d at e = subst AllClosed e (through-reading AllClosed (λ n p. tt) (λ x good c m f to. all-closed x good [] c) s)
+pub units-closed : (s : List ℕ) (d : Description) (at : ℕ) → reading s ≡ read d at → (k : ℕ) → k < length (d .units) → Closed (summed (getD (d .units) k noUnit))
+units-closed s d at e = subst AllClosed e (through-reading AllClosed (λ n p. tt) (λ x good c m f to. all-closed x good c) s)
 
 -- What opening a book answers: accepted exactly when reading ends with a description, with its balance and the offset where it ends;
 -- refused, the fresh balance.

@@ -21,7 +21,8 @@ use Rattle.river.specs.Flow.{downstream, flow, gain, loss}
 use Rattle.river.specs.Limits.{gainLimit}
 use Rattle.record.specs.declared.UnitRecord.{UnitRecord}
 use Rattle.book.specs.declared.Opened.{Opened}
-use Rattle.record.specs.Record.{unitOf, noUnit}
+use Rattle.record.specs.Record.{closedUnit}
+use Rattle.record.specs.Described.{noUnit, unitOf}
 use Rattle.record.specs.Fault.{Sane, Closed, closingFault}
 use Rattle.book.specs.Reading.{Description}
 
@@ -61,7 +62,7 @@ counted b n m =
 
 -- The balance with the open unit, the last of n, put in; with no unit yet it stays as it is.
 abbrev pub stored : Balance → UnitRecord → ℕ → Balance
-stored b u n = cond (eqb n 0) b (putUnit b (n - 1) (unitOf u))
+stored b u n = cond (eqb n 0) b (putUnit b (n - 1) (closedUnit u))
 
 -- The balance that the units and aquifers read so far give, with the open unit put in and both counted.
 abbrev pub fullOf : Balance → UnitRecord → ℕ → ℕ → Balance

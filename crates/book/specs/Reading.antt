@@ -22,7 +22,8 @@ use Rattle.book.specs.declared.Next.{Next}
 use Rattle.book.specs.declared.Next.the-variants.{Ends, Refused, Opens, Grows, Adds}
 use Rattle.book.specs.declared.Opened.{Opened}
 use Rattle.record.specs.Bytes.{bits8, bits16, bits32}
-use Rattle.record.specs.Record.{markOf, unitRecord, withSoil, withYear, rainOf, gaugeOf, aquiferRecord, unitOf, noUnit}
+use Rattle.record.specs.Record.{markOf, unitRecord, withSoil, withYear, rainOf, gaugeOf, aquiferRecord}
+use Rattle.record.specs.Described.{DescribedUnit, unitAt, withRecord, noUnit, summed, unitOf}
 use Rattle.record.specs.Fault.{closingFault, unitFault, soilFault, rainFault, gaugeOutsideAt, gaugeFault, aquiferFault}
 
 -- What a record does, once its bytes are there: it is refused under its fault, or goes on.
@@ -80,22 +81,25 @@ marked Ac s at u units aquifers = aquiferStep s at u units aquifers
 marked Call s at u units aquifers = Ends
 marked Unknown s at u units aquifers = Refused 2 at
 
--- What stands at an offset does to a description with so many units, the last of them open, and so many aquifers:
--- nothing left ends it, and a lone last byte is 1.
+-- What stands at an offset does to a description with so many units, the last of them open with these counts and sums, and so many
+-- aquifers: nothing left ends it, and a lone last byte is 1.
 unfoldable pub next : List ℕ → ℕ → UnitRecord → ℕ → ℕ → Next
 next s at u units aquifers =
     cond (eqb (length s - at) 0) Ends
     (cond (eqb (length s - at) 1) (Refused 1 at)
     (marked (markOf (bits8 s at) (bits8 s (at + 1))) s at u units aquifers))
 
--- A description: its units, the last one open until it is closed, and its aquifers, in file order.
+-- A description: its units, each with its records, the last one open until it is closed, and its aquifers, in file order.
 pub record Description : Type 0 where
-  pub units : List UnitRecord
+  pub units : List DescribedUnit
   pub aquifers : List Aquifer
 
--- The open unit: the last one.
-abbrev pub lastUnit : Description → UnitRecord
+-- The open unit: the last one, and the counts and sums of its records.
+abbrev pub lastUnit : Description → DescribedUnit
 lastUnit d = getD (d .units) (length (d .units) - 1) noUnit
+
+abbrev pub lastSums : Description → UnitRecord
+lastSums d = summed (lastUnit d)
 
 -- The balance that a description gives: its units and aquifers, and no titles. Unused places are empty.
 abbrev pub balanceOf : Description → Balance
@@ -122,31 +126,35 @@ faultAt n Nothing rest = rest
 -- At the end, after closing: 8 downstream above the last unit, then 10 flow negative; both return the lowest-numbered unit at fault.
 abbrev pub ended : Description → ℕ → Outcome
 ended d at =
-    cond (eqb (closingFault (length (d .units)) (lastUnit d)) 0)
+    cond (eqb (closingFault (length (d .units)) (lastSums d)) 0)
     (faultAt 8 (first (length (d .units)) (λ j. ltb (length (d .units)) (getD (d .units) j noUnit .downstream)))
     (faultAt 10 (first (length (d .units)) (λ j. not (nonNeg (flow (viewOf (balanceOf d)) j))))
     (read d at)))
-    (refused (closingFault (length (d .units)) (lastUnit d)) (lastUnit d .at))
+    (refused (closingFault (length (d .units)) (lastSums d)) (lastUnit d .at))
 
 -- A UN adds a unit; SU, PR and AF belong to the last UN; AC adds an aquifer.
-abbrev pub withUnit : Description → UnitRecord → Description
+abbrev pub withUnit : Description → DescribedUnit → Description
 withUnit d u = record { units = d .units ++ (u ∷ []); aquifers = d .aquifers }
 
-abbrev pub withLast : Description → UnitRecord → Description
+abbrev pub withLast : Description → DescribedUnit → Description
 withLast d u = record { units = set (d .units) (length (d .units) - 1) u; aquifers = d .aquifers }
 
 abbrev pub withAquifer : Description → Aquifer → Description
 withAquifer d a = record { units = d .units; aquifers = d .aquifers ++ (a ∷ []) }
 
--- Reading from an offset on, at most so many records.
+-- The open unit with the record at an offset in.
+abbrev pub grownAt : List ℕ → ℕ → Description → DescribedUnit
+grownAt s at d = withRecord (markOf (bits8 s at) (bits8 s (at + 1))) s at (lastUnit d)
+
+-- Reading from an offset on, at most so many records: each record is refused by the counts and sums so far, or kept.
 unfoldable pub readingFrom : ℕ → List ℕ → ℕ → Description → Outcome
 readingFrom zero s at d = refused 1 at
 readingFrom (suc records) s at d =
-    elim (next s at (lastUnit d) (length (d .units)) (length (d .aquifers))) [
+    elim (next s at (lastSums d) (length (d .units)) (length (d .aquifers))) [
       | Ends ↦ ended d at
       | Refused n p ↦ refused n p
-      | Opens u to ↦ readingFrom records s to (withUnit d u)
-      | Grows u to ↦ readingFrom records s to (withLast d u)
+      | Opens u to ↦ readingFrom records s to (withUnit d (unitAt s at))
+      | Grows u to ↦ readingFrom records s to (withLast d (grownAt s at d))
       | Adds a to ↦ readingFrom records s to (withAquifer d a)
     ]
 

@@ -106,9 +106,9 @@ fn ended(b: Balance, u: UnitRecord, n: usize, m: usize, at: usize) -> Opened
     tested(counted(stored(b, u, n), n, m), at)
 }
 
-// A description with no unit yet.
-fn no_unit() -> UnitRecord
-    ensures { λ r. ⌜ r ≡ records.noUnit ⌝ }
+// The sums before the first UN.
+fn no_sums() -> UnitRecord
+    ensures { λ r. ⌜ r ≡ records.noSums ⌝ }
 {
     UnitRecord {
         at: 0,
@@ -133,7 +133,7 @@ pub fn read_book(s: &[u8]) -> Opened
     ensures { λ r. ⌜ r ≡ reading.opened (now (s .entry)) ⌝ }
 {
     let mut b = Balance::fresh();
-    let mut unit = no_unit();
+    let mut unit = no_sums();
     let mut units = 0;
     let mut aquifers = 0;
     let mut at = 0;

@@ -11,6 +11,7 @@ use borrow.Author.Tests.{ltb-false, leb-false, lt-ltb, eq-eqb, ne-eqb}
 use Rattle.laws.specs.Signed.{above, below}
 use Rattle.laws.proofs.Cases.{by-lt, by-eq}
 use Rattle.laws.proofs.Parts.{plus-parts, by-sign, ltZ-false}
+use Rattle.laws.proofs.Signs.{below-pos}
 use Rattle.model.specs.declared.Aquifer.{Aquifer}
 use Rattle.river.specs.Wells.{recharge}
 use Rattle.runoff.specs.Soil.{Known}
@@ -98,18 +99,27 @@ aquifer-clean aquifers a e =
     let p₃ = pass (ltZ (recharge a) (pos 0)) 10 _ (p₂ .on) in
     record { room = leb-false 32 aquifers (p₁ .not); fine = record { within = aquifer-within a (p₂ .not); recharged = p₃ .not } }
 
--- A unit that closes has enough years and a mean of at most 10,000,000.
-gauged-mean : (years : ℕ) (sum : ℤ) → (ltZ sum (pos 0) || ltZ (pos (10000000 * years)) sum) ≡ false → above sum ≤ 10000000 * years
-gauged-mean years sum e =
+-- A unit that closes has enough years, a sum that is not negative and a mean of at most 10,000,000.
+gauged-most : (years : ℕ) (sum : ℤ) → (ltZ sum (pos 0) || ltZ (pos (10000000 * years)) sum) ≡ false → above sum ≤ 10000000 * years
+gauged-most years sum e =
     by-sign sum
     (λ h. omega (arith, ltZ-false (pos (10000000 * years)) sum (or-right (ltZ sum (pos 0)) _ e)))
     (λ h k. omega arith)
+
+gauged-least : (years : ℕ) (sum : ℤ) → (ltZ sum (pos 0) || ltZ (pos (10000000 * years)) sum) ≡ false → below sum ≡ 0
+gauged-least years sum e = sym (below-pos sum (or-left (ltZ sum (pos 0)) _ e))
+
+least-of : (u : UnitRecord) → Sane u → badGauge (u .soils) (u .years) (u .sum) ≡ false → below (u .sum) ≡ 0
+least-of u s e =
+    by-eq (u .soils) 0
+    (λ z. gauged-least (u .years) (u .sum) (and-right (eqb (u .soils) 0) _ e (eq-eqb (u .soils) 0 z)))
+    (s .rain)
 
 mean-of : (u : UnitRecord) → Sane u → badGauge (u .soils) (u .years) (u .sum) ≡ false
     → above (u .sum) ≤ 10000000 * divisor (isGauged u) (u .years)
 mean-of u s e =
     by-eq (u .soils) 0
-    (λ z. rw (eq-eqb (u .soils) 0 z) (gauged-mean (u .years) (u .sum) (and-right (eqb (u .soils) 0) _ e (eq-eqb (u .soils) 0 z))))
+    (λ z. rw (eq-eqb (u .soils) 0 z) (gauged-most (u .years) (u .sum) (and-right (eqb (u .soils) 0) _ e (eq-eqb (u .soils) 0 z))))
     (λ z. rw (ne-eqb (u .soils) 0 z) (omega (arith, s .gains)))
 
 closing-rest : (units : ℕ) (u : UnitRecord) → (units ≡ 0 → ⊥) → closingFault units u ≡ 0
@@ -120,7 +130,7 @@ pub closing-clean : (units : ℕ) (u : UnitRecord) → closingFault units u ≡ 
 closing-clean units u e n s =
     let p₁ = pass (ltb (u .years) 20) 5 _ (closing-rest units u n e) in
     let p₂ = pass (badGauge (u .soils) (u .years) (u .sum)) 8 _ (p₁ .on) in
-    record { sane = s; enough = ltb-false (u .years) 20 (p₁ .not); mean = mean-of u s (p₂ .not) }
+    record { sane = s; enough = ltb-false (u .years) 20 (p₁ .not); least = least-of u s (p₂ .not); mean = mean-of u s (p₂ .not) }
 
 -- A year, or a soil record, more keeps the open unit's numbers small.
 above-plus : (a b : ℤ) → above (a +ℤ b) ≤ above a + above b
@@ -129,8 +139,9 @@ above-plus a b = by-sign (a +ℤ b) (λ h. omega (arith, plus-parts a b)) (λ h 
 below-plus : (a b : ℤ) → below (a +ℤ b) ≤ below a + below b
 below-plus a b = by-sign (a +ℤ b) (λ h. omega arith) (λ h k. omega (arith, plus-parts a b))
 
-pub year-sane : (u : UnitRecord) (year : ℤ) → Sane u → u .years < 50 → YearRange year → Sane (withYear u year)
-year-sane u year s h r =
+pub year-sane : (u : UnitRecord) (year : ℤ) → Sane u → u .years < 50 → YearRange year → ((u .soils ≡ 0 → ⊥) → below year ≡ 0)
+    → Sane (withYear u year)
+year-sane u year s h r q =
     record {
       few = s .few;
       area = s .area;
@@ -138,11 +149,12 @@ year-sane u year s h r =
       short = omega arith;
       gains = omega (arith, above-plus (u .sum) year, s .gains, r .gain);
       losses = omega (arith, below-plus (u .sum) year, s .losses, r .loss);
+      rain = λ n. omega (arith, below-plus (u .sum) year, s .rain n, q n);
     }
 
-pub soil-sane : (u : UnitRecord) (cover soil hectares : ℕ) → Sane u → u .soils < 16 → Known cover soil → u .hectares + hectares ≤ 300000
+pub soil-sane : (u : UnitRecord) (cover soil hectares : ℕ) → Sane u → u .years ≡ 0 → u .soils < 16 → Known cover soil → u .hectares + hectares ≤ 300000
     → Sane (withSoil u cover soil hectares)
-soil-sane u cover soil hectares s h k a =
+soil-sane u cover soil hectares s z h k a =
     record {
       few = omega arith;
       area = a;
@@ -150,32 +162,5 @@ soil-sane u cover soil hectares s h k a =
       short = s .short;
       gains = s .gains;
       losses = s .losses;
-    }
-
-pub keep-soil : (u : UnitRecord) (cover soil hectares : ℕ) (k : ℕ) → Fine k u → Fine k (withSoil u cover soil hectares)
-keep-soil u cover soil hectares k f =
-    record {
-      extraction = f .extraction;
-      exports = f .exports;
-      imports = f .imports;
-      returns = f .returns;
-      evaporation = f .evaporation;
-      commitment = f .commitment;
-      storage = f .storage;
-      inner = f .inner;
-      onward = f .onward;
-    }
-
-pub keep-year : (u : UnitRecord) (year : ℤ) (k : ℕ) → Fine k u → Fine k (withYear u year)
-keep-year u year k f =
-    record {
-      extraction = f .extraction;
-      exports = f .exports;
-      imports = f .imports;
-      returns = f .returns;
-      evaporation = f .evaporation;
-      commitment = f .commitment;
-      storage = f .storage;
-      inner = f .inner;
-      onward = f .onward;
+      rain = λ n. omega (arith, s .losses);
     }

@@ -1,4 +1,4 @@
 pub mod Faults
 pub mod Clean
 pub mod Calling
-pub mod Means
+pub mod Summing

@@ -1,6 +1,7 @@
 -- The refusals of reading (document 01, "What each operation refuses"), by number, first match wins; 0 where none applies.
 -- They work on the number of units and aquifers read so far and on the open unit. Assumes nothing.
 use Prim.Native.Nat.{ℕ, _+_, _*_, _≤_}
+use mathlib.Core.Path.{_≡_}
 use mathlib.Core.Bool.{Bool, cond, _&&_, _||_}
 use mathlib.Core.List.{List}
 use lib.Dec.{eqb, leb, ltb}
@@ -117,7 +118,8 @@ abbrev pub aquiferFault : ℕ → Aquifer → ℕ
 aquiferFault aquifers a =
     cond (leb aquiferLimit aquifers) 4 (cond (aquiferOutside a) 5 (cond (ltZ (recharge a) (pos 0)) 11 0))
 
--- What holds of the open unit at every record, since each record that grew it was tested: its numbers are small enough to be added up.
+-- What holds of the open unit at every record, since each record that grew it was tested: its numbers are small enough to be added up,
+-- and rain years do not sum below 0.
 pub record Sane (u : UnitRecord) : Type 0 where
   pub few : u .soils ≤ 16
   pub area : u .hectares ≤ 300000
@@ -125,14 +127,16 @@ pub record Sane (u : UnitRecord) : Type 0 where
   pub short : u .years ≤ 50
   pub gains : above (u .sum) ≤ 600000000000000 * u .years
   pub losses : below (u .sum) ≤ 600000000000000 * u .years
+  pub rain : (u .soils ≡ 0 → ⊥) → below (u .sum) ≡ 0
 
 -- A year that was read: small enough to be added up.
 pub record YearRange (year : ℤ) : Type 0 where
   pub gain : above year ≤ 600000000000000
   pub loss : below year ≤ 600000000000000
 
--- What holds of a unit that was closed: at least 20 years, and a mean of at most 10,000,000.
+-- What holds of a unit that was closed: at least 20 years, a sum that is not negative, and a mean of at most 10,000,000.
 pub record Closed (u : UnitRecord) : Type 0 where
   pub sane : Sane u
   pub enough : 20 ≤ u .years
+  pub least : below (u .sum) ≡ 0
   pub mean : above (u .sum) ≤ termLimit * divisor (isGauged u) (u .years)

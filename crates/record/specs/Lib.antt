@@ -1,5 +1,6 @@
 -- The records of a book: their bytes, marks and fields, the refusals of reading, and the calls.
 pub mod Bytes
 pub mod Record
+pub mod Described
 pub mod Fault
 pub mod Calls

@@ -33,8 +33,7 @@ markOf a b =
     (cond (isCall a b) Call
     Unknown)))))
 
--- A UN record at an offset: downstream unit (8 bits), then 32 bits each: extraction, exports, imports, returns, evaporation,
--- storage change (signed), outlet commitment. It begins with no soil and no years.
+-- The fields of the UN at an offset, and the sums of no records.
 abbrev pub unitRecord : List ℕ → ℕ → UnitRecord
 unitRecord s i =
     record {
@@ -54,7 +53,7 @@ unitRecord s i =
       sum = pos 0;
     }
 
--- An SU record: cover and soil (8 bits each), hectares (32 bits). The unit with it in.
+-- The sums with one soil record more.
 abbrev pub withSoil : UnitRecord → ℕ → ℕ → ℕ → UnitRecord
 withSoil u cover soil hectares =
     record {
@@ -74,7 +73,7 @@ withSoil u cover soil hectares =
       sum = u .sum;
     }
 
--- The unit with one year more, of so much water.
+-- The sums with one year more, of so much water.
 abbrev pub withYear : UnitRecord → ℤ → UnitRecord
 withYear u year =
     record {
@@ -94,11 +93,11 @@ withYear u year =
       sum = u .sum +ℤ year;
     }
 
--- A PR record, one year's rain (16 bits): a rain year on the unit's hectares and weighted hectares.
+-- What a rain year gives on the unit's hectares and weighted hectares.
 abbrev pub rainOf : UnitRecord → ℕ → ℤ
 rainOf u mm = pos (rainYear (u .hectares) (u .weighted) mm)
 
--- An AF record, one gauged year, 32 bits each: outflow, inflow, extraction, exports, imports, returns, evaporation, storage change (signed).
+-- What the gauged year of the AF at an offset gives.
 abbrev pub gaugeOf : List ℕ → ℕ → ℤ
 gaugeOf s i =
     gaugedYear (bits32 s (i + 2)) (bits32 s (i + 6)) (bits32 s (i + 10)) (bits32 s (i + 14)) (bits32 s (i + 18)) (bits32 s (i + 22))
@@ -119,9 +118,9 @@ aquiferRecord s i =
 abbrev pub isGauged : UnitRecord → Bool
 isGauged u = eqb (u .soils) 0
 
--- The unit of the balance: its UN's fields and its natural runoff.
-abbrev pub unitOf : UnitRecord → Unit
-unitOf u =
+-- The unit of the balance that a unit's fields and sums give.
+abbrev pub closedUnit : UnitRecord → Unit
+closedUnit u =
     record {
       downstream = u .downstream;
       extraction = u .extraction;
@@ -134,9 +133,9 @@ unitOf u =
       runoff = naturalRunoff (isGauged u) (u .years) (u .sum);
     }
 
--- Before the first UN there is no unit.
-abbrev pub noUnit : UnitRecord
-noUnit =
+-- The sums before the first UN.
+abbrev pub noSums : UnitRecord
+noSums =
     record {
       at = 0;
       downstream = 0;

@@ -177,7 +177,7 @@ pub fn year_at(s: &[u8], at: usize, storage: i64) -> i64
 // The unit of the balance that a closed unit gives.
 pub fn unit_of(u: UnitRecord) -> Unit
     requires { ⌜ Closed u ⌝ }
-    ensures { λ r. ⌜ r ≡ records.unitOf u ⌝ }
+    ensures { λ r. ⌜ r ≡ records.closedUnit u ⌝ }
 {
     let storage = u.storage;
     let sum = u.sum;

@@ -1,9 +1,9 @@
 -- A gauged year as its gains less its losses, and its bounds. Assumes nothing.
-use Prim.Native.Nat.{ℕ, _+_, _≤_, _<_, _^_}
+use Prim.Native.Nat.{ℕ, _+_, _≤_}
 use lib.IntN.{ℤ}
 use native.Mathlib.Omega.{arith}
 use Rattle.laws.specs.Signed.{above, below}
-use Rattle.runoff.specs.Year.{gaugedYear, GaugedRange}
+use Rattle.runoff.specs.Year.{gaugedYear}
 use Rattle.laws.proofs.Parts.{Less, less-pos, less-self, less-plus, less-minus, less-above, less-below}
 
 module _ (outflow inflow extraction exports imports returns evaporation : ℕ) (storage : ℤ) where
@@ -27,10 +27,3 @@ module _ (outflow inflow extraction exports imports returns evaporation : ℕ) (
       below (gaugedYear outflow inflow extraction exports imports returns evaporation storage)
       ≤ inflow + imports + returns + below storage
   gauged-below = less-below gauged-parts
-
-  -- A gauged year of 32-bit numbers is less than 2^35 from 0.
-  pub gauged-within :
-      GaugedRange outflow inflow extraction exports imports returns evaporation storage
-      → (above (gaugedYear outflow inflow extraction exports imports returns evaporation storage) < 2 ^ 35)
-      × (below (gaugedYear outflow inflow extraction exports imports returns evaporation storage) < 2 ^ 35)
-  gauged-within r = (omega (arith, gauged-above), omega (arith, gauged-below))

@@ -1,9 +1,8 @@
 -- Laws of rounding and of the mean. Assumes nothing.
 use Prim.Native.Nat.{ℕ, suc, _+_, _*_, _≤_, _<_}
-use mathlib.Core.Path.{_≡_}
 use mathlib.Core.Bool.{Bool, true, false}
 use lib.IntN.{ℤ}
-use native.Mathlib.Nat.{mul-div-le, lt-mul-div-succ, div-eq-of-lt, div-lt-iff-lt-mul, suc-mul, mul-left-comm}
+use native.Mathlib.Nat.{mul-div-le, lt-mul-div-succ, div-lt-iff-lt-mul, suc-mul, mul-left-comm}
 use native.Mathlib.Omega.{arith}
 use Rattle.laws.specs.Signed.{above}
 use Rattle.runoff.specs.Mean.{rounded, divisor, naturalRunoff}
@@ -22,10 +21,6 @@ pub rounded-within : (m num den : ℕ) → 0 < den → num ≤ m * den → round
 unfolding rounded
 rounded-within m num den h l =
     omega (arith, div-lt-iff-lt-mul {k = 2 * den} {x = 2 * num + den} {y = suc m} (omega arith) .1 (omega (arith, suc-mul m (2 * den), mul-left-comm m 2 den)))
-
-pub rounded-zero : (den : ℕ) → 0 < den → rounded 0 den ≡ 0
-unfolding rounded
-rounded-zero den h = div-eq-of-lt (omega arith)
 
 -- A mean of at least one year has a divisor, and a sum of at most 10,000,000 times it has a mean of at most 10,000,000.
 pub divisor-positive : (gauged : Bool) (years : ℕ) → 0 < years → 0 < divisor gauged years

@@ -1,7 +1,8 @@
 -- Natural runoff of a unit from its soil records and its years, as lists. Assumes nothing.
 use Prim.Native.Nat.{ℕ, _+_}
-use mathlib.Core.Bool.{true, false}
+use mathlib.Core.Bool.{Bool, true, false}
 use mathlib.Core.List.{List, [], _∷_}
+use lib.Dec.{eqb}
 use lib.ListN.{length}
 use lib.IntN.{ℤ, pos, _+ℤ_}
 use Rattle.runoff.specs.Soil.{weighted}
@@ -57,3 +58,30 @@ gaugedSum (y ∷ years) = gaugedOf y +ℤ gaugedSum years
 -- The natural runoff of a unit with gauged years is the mean of its years, rounded once.
 unfoldable pub gaugedRunoff : List Gauged → ℕ
 gaugedRunoff years = naturalRunoff true (length years) (gaugedSum years)
+
+-- One year of a unit: its rain in mm, or its gauged volumes.
+pub data Year : Type 0 where
+  ofRain : ℕ → Year
+  ofGauge : Gauged → Year
+
+-- What a year gives on A hectares with the sum S: a rain year in 60,000,000ths, a gauged year in thousand m³.
+abbrev pub yearGives : ℕ → ℕ → Year → ℤ
+yearGives A S (ofRain mm) = pos (rainYear A S mm)
+yearGives A S (ofGauge y) = gaugedOf y
+
+-- The sum of the years.
+unfoldable pub yearsSum : ℕ → ℕ → List Year → ℤ
+yearsSum A S [] = pos 0
+yearsSum A S (y ∷ years) = yearGives A S y +ℤ yearsSum A S years
+
+-- The sum of a unit's years on its soil records.
+abbrev pub sumOn : List Plot → List Year → ℤ
+sumOn plots years = yearsSum (areaOf plots) (weightedOf plots) years
+
+-- A unit without soil records is gauged.
+abbrev pub gaugedOn : List Plot → Bool
+gaugedOn plots = eqb (length plots) 0
+
+-- The natural runoff of a unit is the mean of its years, rounded once, halves up.
+abbrev pub runoffOf : List Plot → List Year → ℕ
+runoffOf plots years = naturalRunoff (gaugedOn plots) (length years) (sumOn plots years)

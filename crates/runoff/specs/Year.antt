@@ -29,14 +29,3 @@ gaugedYear outflow inflow extraction exports imports returns evaporation storage
 pub record StorageRange (storage : ℤ) : Type 0 where
   pub aboveTo : above storage < 2 ^ 31
   pub belowTo : below storage ≤ 2 ^ 31
-
--- A gauged year whose volumes are unsigned 32-bit numbers.
-pub record GaugedRange (outflow inflow extraction exports imports returns evaporation : ℕ) (storage : ℤ) : Type 0 where
-  pub outflowTo : outflow < 2 ^ 32
-  pub inflowTo : inflow < 2 ^ 32
-  pub extractionTo : extraction < 2 ^ 32
-  pub exportsTo : exports < 2 ^ 32
-  pub importsTo : imports < 2 ^ 32
-  pub returnsTo : returns < 2 ^ 32
-  pub evaporationTo : evaporation < 2 ^ 32
-  pub storageTo : StorageRange storage

@@ -1,6 +1,6 @@
 -- `book::read_book` meets its contract. Assumes nothing.
 use lib.ListN.{length}
-use Rattle.book.specs.Reading.{lastUnit}
+use Rattle.book.specs.Reading.{lastSums}
 use mathlib.Core.Path.{_≡_, sym, _∙_}
 use native.Mathlib.Omega.{arith}
 use borrow.Author.Needs.{needs}
@@ -19,14 +19,14 @@ abbrev μ-loop : tie.MeasureT-loop
 fresh-requires : tie.Need-fresh-requires Inv-loop μ-loop
 fresh-requires c κs = search needs
 
-no-unit-requires : tie.Need-no-unit-requires Inv-loop μ-loop
-no-unit-requires c κs = search needs
+no-sums-requires : tie.Need-no-sums-requires Inv-loop μ-loop
+no-sums-requires c κs = search needs
 
 add-left : tie.Need-add-left Inv-loop μ-loop
 add-left c = search needs
 
 loop-holds : tie.Need-loop-holds Inv-loop μ-loop
-loop-holds c = rw (c .before .fresh .ensures, c .no-unit .ensures) (reached-start (c .before .before .before .args .s .now))
+loop-holds c = rw (c .before .fresh .ensures, c .no-sums .ensures) (reached-start (c .before .before .before .args .s .now))
 
 sub-left : tie.Need-sub-left Inv-loop μ-loop
 sub-left c = c .loop-test .taken
@@ -68,7 +68,7 @@ unit-of-requires : tie.Need-unit-of-requires Inv-loop μ-loop
 unit-of-requires c κs =
     let r = c .before .before .before .before .before .before .loop .inv in
     let f = opens-facts (c .before .before .before .before .before .before .before .before .before .before .args .s .now) _ _ _ _ _ _ (c .before .before .before .before .before .before .loop .inv) (c .before .before .before .before .before .loop-test .taken) _ _ (sym (c .before .before .before .before .next .ensures) ∙ c .before .before .step2 .given .1) in
-    rw (r .last) (closing-clean (length (r .description .units)) (lastUnit (r .description)) (f .closing) (omega (arith, r .count, c .if1 .left)) (r .good .sane))
+    rw (r .last) (closing-clean (length (r .description .units)) (lastSums (r .description)) (f .closing) (omega (arith, r .count, c .if1 .left)) (r .good .sane))
 
 mul-closed : tie.Need-mul-closed Inv-loop μ-loop
 mul-closed c = omega (arith, c .before .before .before .before .before .before .before .loop .inv .count, c .before .before .before .before .before .before .before .loop .inv .good .few)
@@ -127,7 +127,7 @@ read-book-spec =
     Inv-loop
     μ-loop
     fresh-requires
-    no-unit-requires
+    no-sums-requires
     add-left
     loop-holds
     sub-left

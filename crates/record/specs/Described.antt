@@ -1,0 +1,156 @@
+-- A unit as its book describes it, by its records (document 01, "The book"). Assumes nothing.
+use Prim.Native.Nat.{ℕ, _+_}
+use mathlib.Core.List.{List, [], _∷_, _++_}
+use lib.IntN.{ℤ, pos}
+use lib.ListN.{length}
+use Rattle.model.specs.declared.Unit.{Unit}
+use Rattle.runoff.specs.Record.{Plot, Gauged, Year, ofRain, ofGauge, areaOf, weightedOf, sumOn, runoffOf}
+use Rattle.record.specs.declared.UnitRecord.{UnitRecord}
+use Rattle.record.specs.declared.Mark.{Mark}
+use Rattle.record.specs.declared.Mark.the-variants.{Un, Su, Pr, Af, Ac, Call, Unknown}
+use Rattle.record.specs.Bytes.{bits8, bits16, bits32, signedBits32}
+
+-- The offset of the unit's UN mark, the fields of its UN, its soil records and its years, in file order.
+pub record DescribedUnit : Type 0 where
+  pub at : ℕ
+  pub downstream : ℕ
+  pub extraction : ℕ
+  pub exports : ℕ
+  pub imports : ℕ
+  pub returns : ℕ
+  pub evaporation : ℕ
+  pub storage : ℤ
+  pub commitment : ℕ
+  pub plots : List Plot
+  pub years : List Year
+
+-- The UN at an offset: downstream unit (8 bits), then 32 bits each: extraction, exports, imports, returns, evaporation, storage change
+-- (signed), outlet commitment. It begins with no soil records and no years.
+abbrev pub unitAt : List ℕ → ℕ → DescribedUnit
+unitAt s i =
+    record {
+      at = i;
+      downstream = bits8 s (i + 2);
+      extraction = bits32 s (i + 3);
+      exports = bits32 s (i + 7);
+      imports = bits32 s (i + 11);
+      returns = bits32 s (i + 15);
+      evaporation = bits32 s (i + 19);
+      storage = signedBits32 s (i + 23);
+      commitment = bits32 s (i + 27);
+      plots = [];
+      years = [];
+    }
+
+-- The SU at an offset: cover and soil (8 bits each), hectares (32 bits).
+abbrev pub plotAt : List ℕ → ℕ → Plot
+plotAt s i = record { cover = bits8 s (i + 2); soil = bits8 s (i + 3); hectares = bits32 s (i + 4) }
+
+-- The PR at an offset: one year's rain (16 bits).
+abbrev pub rainAt : List ℕ → ℕ → Year
+rainAt s i = ofRain (bits16 s (i + 2))
+
+-- The AF at an offset: one gauged year, 32 bits each: outflow, inflow, extraction, exports, imports, returns, evaporation, storage
+-- change (signed).
+abbrev pub gaugedAt : List ℕ → ℕ → Gauged
+gaugedAt s i =
+    record {
+      outflow = bits32 s (i + 2);
+      inflow = bits32 s (i + 6);
+      extraction = bits32 s (i + 10);
+      exports = bits32 s (i + 14);
+      imports = bits32 s (i + 18);
+      returns = bits32 s (i + 22);
+      evaporation = bits32 s (i + 26);
+      storage = signedBits32 s (i + 30);
+    }
+
+abbrev pub gaugeAt : List ℕ → ℕ → Year
+gaugeAt s i = ofGauge (gaugedAt s i)
+
+-- A unit with other soil records and years.
+abbrev pub withRecords : DescribedUnit → List Plot → List Year → DescribedUnit
+withRecords u plots years =
+    record {
+      at = u .at;
+      downstream = u .downstream;
+      extraction = u .extraction;
+      exports = u .exports;
+      imports = u .imports;
+      returns = u .returns;
+      evaporation = u .evaporation;
+      storage = u .storage;
+      commitment = u .commitment;
+      plots = plots;
+      years = years;
+    }
+
+-- A unit with one soil record more, with one year more.
+abbrev pub addPlot : DescribedUnit → Plot → DescribedUnit
+addPlot u p = withRecords u (u .plots ++ (p ∷ [])) (u .years)
+
+abbrev pub addYear : DescribedUnit → Year → DescribedUnit
+addYear u y = withRecords u (u .plots) (u .years ++ (y ∷ []))
+
+-- The unit with the record at an offset in, by the record's mark: SU, PR and AF belong to it.
+abbrev pub withRecord : Mark → List ℕ → ℕ → DescribedUnit → DescribedUnit
+withRecord Un s at u = u
+withRecord Su s at u = addPlot u (plotAt s at)
+withRecord Pr s at u = addYear u (rainAt s at)
+withRecord Af s at u = addYear u (gaugeAt s at)
+withRecord Ac s at u = u
+withRecord Call s at u = u
+withRecord Unknown s at u = u
+
+-- Before the first UN there is no unit.
+abbrev pub noUnit : DescribedUnit
+noUnit =
+    record {
+      at = 0;
+      downstream = 0;
+      extraction = 0;
+      exports = 0;
+      imports = 0;
+      returns = 0;
+      evaporation = 0;
+      storage = pos 0;
+      commitment = 0;
+      plots = [];
+      years = [];
+    }
+
+-- The counts and sums of a unit's records, which its refusals go by: how many soil records there are, their hectares and weighted
+-- hectares, how many years there are and their sum.
+abbrev pub summed : DescribedUnit → UnitRecord
+summed u =
+    record {
+      at = u .at;
+      downstream = u .downstream;
+      extraction = u .extraction;
+      exports = u .exports;
+      imports = u .imports;
+      returns = u .returns;
+      evaporation = u .evaporation;
+      storage = u .storage;
+      commitment = u .commitment;
+      soils = length (u .plots);
+      hectares = areaOf (u .plots);
+      weighted = weightedOf (u .plots);
+      years = length (u .years);
+      sum = sumOn (u .plots) (u .years);
+    }
+
+-- The unit of the balance: its UN's fields and its natural runoff.
+abbrev pub unitOf : DescribedUnit → Unit
+unitOf u =
+    record {
+      downstream = u .downstream;
+      extraction = u .extraction;
+      exports = u .exports;
+      imports = u .imports;
+      returns = u .returns;
+      evaporation = u .evaporation;
+      storage = u .storage;
+      commitment = u .commitment;
+      runoff = runoffOf (u .plots) (u .years);
+    }
