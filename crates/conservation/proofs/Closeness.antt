@@ -5,13 +5,13 @@ use mathlib.Core.Bool.{Bool, true, false}
 use lib.Dec.{eqb}
 use borrow.Author.Tests.{eqb-true}
 use lib.IntN.{ℤ, pos, negsuc, negℤ, _+ℤ_, _-ℤ_}
-use native.Mathlib.Nat.{mul-zero, mul-comm, mul-assoc, mul-left-comm, mul-right-comm, mul-add, add-mul, mul-le-mul-right}
+use native.Mathlib.Nat.{mul-zero, mul-comm, mul-assoc, mul-right-comm, mul-add, add-mul, mul-le-mul-right}
 use native.Mathlib.Omega.{arith}
 use Rattle.laws.specs.Sum.{naturals, integers, sumOf, only, every}
 use Rattle.laws.specs.Signed.{above, below}
 use Rattle.laws.specs.Gather.{gather}
 use Rattle.laws.proofs.Every.{every-each}
-use Rattle.laws.proofs.Parts.{by-sign, plus-parts, negate-parts, minus-parts, Less, less-pos, less-self, less-plus, less-minus}
+use Rattle.laws.proofs.Parts.{by-sign, parts-equal, plus-parts, negate-parts, minus-parts, Less, less-pos, less-self, less-plus, less-minus}
 use Rattle.laws.proofs.Gathering.{related-gather}
 use Rattle.model.specs.declared.Unit.{Unit}
 use Rattle.model.specs.View.{View}
@@ -19,7 +19,7 @@ use Rattle.river.specs.Flow.{downstream, net, loss, flow, Ready}
 use Rattle.river.proofs.Flows.{net-parts}
 use Rattle.runoff.specs.Mean.{divisor, rounded, naturalRunoff}
 use Rattle.runoff.proofs.Rounding.{rounded-low, rounded-high, divisor-positive}
-use Rattle.conservation.specs.Demand3.{atOrAbove, gcdTo, lcmFrom, scale, exactRunoff, times, otherNet, exactNet, exactFlow, apart}
+use Rattle.conservation.specs.Demand3.{atOrAbove, gcdTo, lcmFrom, scale, times, otherNet, exactNet, exactFlow, apart}
 use Rattle.conservation.proofs.Upstream.{gathers-above}
 
 -- The least common multiple of 20 to 50 in figures.
@@ -48,15 +48,6 @@ scale-whole gauged years g h =
     let e : 20 + (years - 20) ≡ years = omega arith in
     subst (λ (y : ℕ). divisor gauged y * (scale / divisor gauged y) ≡ scale) e (each-divides gauged (years - 20) (omega arith))
 
-part-whole : (num den part m : ℕ) → den * part ≡ m → den * (num * part) ≡ m * num
-part-whole num den part m e = mul-left-comm den num part ∙ ap (λ (k : ℕ). num * k) e ∙ mul-comm num m
-
--- It is exact: the divisor times it is M times the sum of the years.
-pub exact-mean : (gauged : Bool) (years : ℕ) (sum : ℤ) → 20 ≤ years → years ≤ 50
-    → divisor gauged years * exactRunoff gauged years sum ≡ scale * above sum
-exact-mean gauged years sum g h =
-    part-whole (above sum) (divisor gauged years) (scale / divisor gauged years) scale (scale-whole gauged years g h)
-
 -- A bound on the distance of two numbers, all taken p times.
 taken : (x y d p : ℕ) → 2 * x ≤ 2 * y + d → 2 * (x * p) ≤ 2 * (y * p) + d * p
 taken x y d p h = omega (arith, mul-le-mul-right p h, add-mul (2 * y) d p, mul-assoc 2 x p, mul-assoc 2 y p)
@@ -77,15 +68,6 @@ module _ (num den part m : ℕ) (e : den * part ≡ m) where
       let q : 2 * num ≤ 2 * x + den = omega (arith, rounded-high num den h, mul-assoc 2 den (rounded num den + 1), mul-add den (rounded num den) 1) in
       omega (arith, taken num x den part q, rounded-taken)
 
--- The natural runoff lies within half of the mean; both taken M times.
-pub runoff-close : (gauged : Bool) (years : ℕ) (sum : ℤ) → 20 ≤ years → years ≤ 50
-    → (2 * (scale * naturalRunoff gauged years sum) ≤ 2 * exactRunoff gauged years sum + scale)
-    × (2 * exactRunoff gauged years sum ≤ 2 * (scale * naturalRunoff gauged years sum) + scale)
-runoff-close gauged years sum g h =
-    let d = divisor gauged years in
-    let e = scale-whole gauged years g h in
-    (low-taken (above sum) d (scale / d) scale e, high-taken (above sum) d (scale / d) scale e (divisor-positive gauged years (omega arith)))
-
 -- b lies within c halves of m of m times a.
 record Near (m : ℕ) (a b : ℤ) (c : ℕ) : Type 0 where
   over : 2 * (m * above a + below b) ≤ 2 * (m * below a + above b) + m * c
@@ -95,6 +77,45 @@ record Near (m : ℕ) (a b : ℤ) (c : ℕ) : Type 0 where
 times-parts : (m : ℕ) (z : ℤ) → (above (times m z) ≡ m * above z) × (below (times m z) ≡ m * below z)
 times-parts m (pos k) = (refl, sym (mul-zero m))
 times-parts m (negsuc k) = (negate-parts (pos (m * suc k)) .0 ∙ sym (mul-zero m), negate-parts (pos (m * suc k)) .1)
+
+-- Taking n times what was taken m times.
+times-times : (n m : ℕ) (z : ℤ) → times n (times m z) ≡ times (n * m) z
+times-times n m z =
+    let a = times-parts m z in
+    let b = times-parts n (times m z) in
+    let c = times-parts (n * m) z in
+    parts-equal (times n (times m z)) (times (n * m) z)
+    (omega (
+      arith,
+      b .0 ∙ ap (λ (k : ℕ). n * k) (a .0) ∙ sym (mul-assoc n m (above z)) ∙ sym (c .0),
+      b .1 ∙ ap (λ (k : ℕ). n * k) (a .1) ∙ sym (mul-assoc n m (below z)) ∙ sym (c .1),
+    ))
+
+-- It is exact: taken as often as the sum of the years is divided by, it is M times that sum.
+pub exact-mean : (gauged : Bool) (years : ℕ) (sum : ℤ) → 20 ≤ years → years ≤ 50
+    → times (divisor gauged years) (times (scale / divisor gauged years) sum) ≡ times scale sum
+exact-mean gauged years sum g h =
+    times-times (divisor gauged years) (scale / divisor gauged years) sum ∙ ap (λ (m : ℕ). times m sum) (scale-whole gauged years g h)
+
+-- M times the mean, and M times a natural runoff that lies within half of the mean. A mean from which a runoff is rounded is not negative.
+pub record MeanClose (runoff : ℕ) (exact : ℤ) : Type 0 where
+  pub least : below exact ≡ 0
+  pub low : 2 * (scale * runoff) ≤ 2 * above exact + scale
+  pub high : 2 * above exact ≤ 2 * (scale * runoff) + scale
+
+pub runoff-close : (gauged : Bool) (years : ℕ) (sum : ℤ) → 20 ≤ years → years ≤ 50 → below sum ≡ 0
+    → MeanClose (naturalRunoff gauged years sum) (times (scale / divisor gauged years) sum)
+runoff-close gauged years sum g h z =
+    let d = divisor gauged years in
+    let p = scale / d in
+    let e = scale-whole gauged years g h in
+    let t = times-parts p sum in
+    let q : above (times p sum) ≡ above sum * p = t .0 ∙ mul-comm p (above sum) in
+    record {
+      least = t .1 ∙ ap (λ (k : ℕ). p * k) z ∙ mul-zero p;
+      low = omega (arith, q, low-taken (above sum) d p scale e);
+      high = omega (arith, q, high-taken (above sum) d p scale e (divisor-positive gauged years (omega arith)));
+    }
 
 -- An equation of sums of three, taken m times.
 sums-taken : (m a b c d e f : ℕ) → a + b + c ≡ d + e + f → m * a + m * b + m * c ≡ m * d + m * e + m * f
@@ -149,20 +170,21 @@ other-less u =
     (less-pos (u .exports))) (less-pos (u .extraction))) (less-pos (u .evaporation))) (less-self (u .storage)) in
     record { parts = omega (arith, p .parts) }
 
-exact-less : (exact : ℕ) (u : Unit) → Less (exactNet exact u) (exact + scale * otherGains u) (scale * loss u)
-exact-less exact u =
-    let p = less-plus (less-pos exact) (times-less scale (otherNet u) (otherGains u) (loss u) (other-less u)) in
-    record { parts = omega (arith, p .parts) }
+exact-less : (exact : ℤ) (u : Unit) → below exact ≡ 0 → Less (exactNet exact u) (above exact + scale * otherGains u) (scale * loss u)
+exact-less exact u z =
+    let p = less-plus (less-self exact) (times-less scale (otherNet u) (otherGains u) (loss u) (other-less u)) in
+    record { parts = omega (arith, p .parts, z) }
 
 -- M times the flow of a unit lies at most half of M, for each unit at or above it, from M times the flow worked from unrounded natural runoff.
-pub flow-close : (v : View) → Ready v → (exact : ℕ → ℕ)
-    → ((k : ℕ) → k < v .units → (2 * (scale * v .unit k .runoff) ≤ 2 * exact k + scale) × (2 * exact k ≤ 2 * (scale * v .unit k .runoff) + scale))
+pub flow-close : (v : View) → Ready v → (exact : ℕ → ℤ) → ((k : ℕ) → k < v .units → MeanClose (v .unit k .runoff) (exact k))
     → (j : ℕ) → j < v .units
     → 2 * apart (times scale (flow v j)) (exactFlow v exact j) ≤ scale * sumOf naturals (v .units) (λ k. only naturals (atOrAbove v j k) 1)
 unfolding flow exactFlow
 flow-close v r exact near j h =
     let n = related-gather integers integers naturals (Near scale) (near-none scale) (near-plus scale)
     (downstream v) (λ k. net (v .unit k)) (λ k. exactNet (exact k) (v .unit k)) (λ k. 1) j
-    (λ k g. near-runoff scale _ _ _ _ _ _ (net-less (v .unit k)) (exact-less (exact k) (v .unit k)) (near k (omega arith) .0) (near k (omega arith) .1)) in
+    (λ k g.
+    let c = near k (omega arith) in
+    near-runoff scale _ _ _ _ _ _ (net-less (v .unit k)) (exact-less (exact k) (v .unit k) (c .least)) (c .low) (c .high)) in
     subst (λ (c : ℕ). 2 * apart (times scale (flow v j)) (exactFlow v exact j) ≤ scale * c) (gathers-above v r (λ k. 1) j h)
     (near-apart scale (flow v j) (exactFlow v exact j) _ n)

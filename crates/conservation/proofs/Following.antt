@@ -26,7 +26,8 @@ use Rattle.titles.specs.Adds.{adds, placeAdds}
 use Rattle.titles.proofs.Adding.{places-none, place-granted}
 use Rattle.basin.specs.Sound.{sound, flowing}
 use Rattle.basin.proofs.Soundness.{soundness}
-use Rattle.record.specs.Record.{unitOf, noUnit}
+use Rattle.runoff.specs.Record.{areaOf, weightedOf, yearsSum}
+use Rattle.record.specs.Described.{unitOf, noUnit}
 use Rattle.book.specs.Reading.{Description, balanceOf, read, reading, opened}
 use Rattle.book.proofs.Promises.{opening-sound, accepted-exactly}
 use Rattle.register.specs.declared.Reply.{Reply}
@@ -95,7 +96,7 @@ module _ (d : Description) where
 
   -- Past the last unit the base entries are those of an empty place.
   no-unit : emptyUnit ≡ unitOf noUnit
-  unfolding rounded
+  unfolding rounded yearsSum areaOf weightedOf
   no-unit = refl
 
   past-units : (j : ℕ) → length (d .units) ≤ j → emptyUnit ≡ baseUnit d j

@@ -24,7 +24,8 @@ use Rattle.basin.specs.Figures.{figuresReply}
 use Rattle.basin.specs.Sound.{sound}
 use Rattle.basin.proofs.Soundness.{Soundness, soundness, ready-of}
 use Rattle.basin.proofs.Replies.{accepted-reply}
-use Rattle.record.specs.Record.{noUnit, isGauged}
+use Rattle.runoff.specs.Record.{sumOn, gaugedOn}
+use Rattle.record.specs.Described.{noUnit, summed}
 use Rattle.record.specs.Fault.{Closed}
 use Rattle.book.specs.Reading.{Description, read, reading, opened}
 use Rattle.book.proofs.Promises.{units-closed}
@@ -85,15 +86,18 @@ module _ (d : Description) (t : Tally) (s : Soundness (entries d t)) where
       ∙ ap (λ (k : ℕ). overUnits d (λ j. baseUnit d j .imports) + k)
       (transfers-balance (length (d .units)) (length (d .aquifers)) (t .place) (t .last) (s .place))
 
-  flows-close : ((k : ℕ) → k < length (d .units) → Closed (getD (d .units) k noUnit)) → (j : ℕ) → j < length (d .units)
+  flows-close : ((k : ℕ) → k < length (d .units) → Closed (summed (getD (d .units) k noUnit))) → (j : ℕ) → j < length (d .units)
       → 2 * apart (times scale (flow (entries d t) j)) (exactFlow (entries d t) (λ k. exactMean (getD (d .units) k noUnit)) j)
       ≤ scale * overUnits d (λ k. only naturals (atOrAbove (entries d t) j k) 1)
   flows-close closed =
       flow-close (entries d t) ready (λ k. exactMean (getD (d .units) k noUnit))
-      (λ k g. let u = getD (d .units) k noUnit in runoff-close (isGauged u) (u .years) (u .sum) (closed k g .enough) (closed k g .sane .short))
+      (λ k g.
+      let u = getD (d .units) k noUnit in
+      let c = closed k g in
+      runoff-close (gaugedOn (u .plots)) (length (u .years)) (sumOn (u .plots) (u .years)) (c .enough) (c .sane .short) (c .least))
 
   -- Demand 3 holds of the figures over sound entries of a description whose units have 20 to 50 years.
-  figures-hold : ((k : ℕ) → k < length (d .units) → Closed (getD (d .units) k noUnit)) → Demand3 d t (figures d t)
+  figures-hold : ((k : ℕ) → k < length (d .units) → Closed (summed (getD (d .units) k noUnit))) → Demand3 d t (figures d t)
   figures-hold closed =
       record {
         defined = refl;

@@ -23,6 +23,7 @@ use Rattle.model.specs.Fresh.{emptyAquifer, emptyPlace}
 use Rattle.model.specs.View.{View, viewOf}
 use Rattle.model.specs.Answers.{Refusal, none, number}
 use Rattle.runoff.specs.Mean.{divisor}
+use Rattle.runoff.specs.Record.{sumOn, gaugedOn}
 use Rattle.titles.specs.declared.Slot.{Slot}
 use Rattle.titles.specs.declared.Slot.the-variants.{Extraction, Exports, Imports, Returns, WellExtraction}
 use Rattle.titles.specs.Adds.{placeAdds}
@@ -31,8 +32,7 @@ use Rattle.figures.specs.Figures.{noUnitFigures, allUnitFigures, allAquiferFigu
 use Rattle.basin.specs.declared.Figures.{Figures}
 use Rattle.basin.specs.Figures.{figuresReply}
 use Rattle.reach.specs.Reach.{liesBelow}
-use Rattle.record.specs.declared.UnitRecord.{UnitRecord}
-use Rattle.record.specs.Record.{unitOf, noUnit, isGauged}
+use Rattle.record.specs.Described.{DescribedUnit, noUnit, unitOf}
 use Rattle.book.specs.Reading.{Description}
 use Rattle.register.specs.Calls.{callRefusal, after}
 
@@ -153,28 +153,26 @@ lcmFrom a (suc n) = lcm (lcmFrom a n) (a + n)
 unfoldable pub scale : ℕ
 scale = 60000000 * lcmFrom 20 31
 
--- M times the mean of the years that a unit's natural runoff is rounded from, which is whole.
-abbrev pub exactRunoff : Bool → ℕ → ℤ → ℕ
-exactRunoff gauged years sum = above sum * (scale / divisor gauged years)
-
-abbrev pub exactMean : UnitRecord → ℕ
-exactMean u = exactRunoff (isGauged u) (u .years) (u .sum)
-
 -- An integer taken m times.
 abbrev pub times : ℕ → ℤ → ℤ
 times m (pos k) = pos (m * k)
 times m (negsuc k) = negℤ (pos (m * suc k))
+
+-- M times the mean of a unit's years, from which its natural runoff is rounded. It is whole, since M is a whole multiple of what the sum of
+-- the years is divided by.
+abbrev pub exactMean : DescribedUnit → ℤ
+exactMean u = times (scale / divisor (gaugedOn (u .plots)) (length (u .years))) (sumOn (u .plots) (u .years))
 
 -- What a unit adds to the river by itself besides its natural runoff: returns + imports − exports − extraction − evaporation − storage change.
 abbrev pub otherNet : Unit → ℤ
 otherNet u = pos (u .returns) +ℤ pos (u .imports) -ℤ pos (u .exports) -ℤ pos (u .extraction) -ℤ pos (u .evaporation) -ℤ u .storage
 
 -- M times what a unit adds to the river by itself, where M times its natural runoff is given.
-abbrev pub exactNet : ℕ → Unit → ℤ
-exactNet exact u = pos exact +ℤ times scale (otherNet u)
+abbrev pub exactNet : ℤ → Unit → ℤ
+exactNet exact u = exact +ℤ times scale (otherNet u)
 
 -- M times the flow that is worked from unrounded natural runoff with the same other entries, where M times each unit's runoff is given.
-unfoldable pub exactFlow : View → (ℕ → ℕ) → ℕ → ℤ
+unfoldable pub exactFlow : View → (ℕ → ℤ) → ℕ → ℤ
 exactFlow v exact j = gather integers (downstream v) (λ k. exactNet (exact k) (v .unit k)) j
 
 -- How far two integers lie apart.
