@@ -70,56 +70,56 @@ module _ (d : Description) (good : Good d) where
   module _ (s : List ℕ) (at : ℕ) where
     pub good-unit : (w : UnitRecord) (to : ℕ) → OpensFacts s at (lastUnit d) (length (d .units)) (length (d .aquifers)) w to → Good (withUnit d (unitAt s at))
     good-unit w to f =
-      let us = d .units in
-      let v = unitAt s at in
-      let l = snoc-length us v noUnit in
-      record {
-        few = omega (arith, l, f .clean .room);
-        many = good .many;
-        fine = λ k h.
-            by-eq k (length us)
-            (λ e. rw (snoc-last us v noUnit k e, e) (f .clean .fine))
-            (λ e. rw (snoc-before us v noUnit k (omega (arith, l))) (good .fine k (omega (arith, l))));
-        closed = λ k h. rw (snoc-before us v noUnit k (omega (arith, l))) (all-closed (f .closing) k (omega (arith, l)));
-        sane = rw (snoc-last us v noUnit (length (us ++ (v ∷ [])) - 1) (omega (arith, l))) (f .sane);
-        wells = good .wells;
-      }
+        let us = d .units in
+        let v = unitAt s at in
+        let l = snoc-length us v noUnit in
+        record {
+          few = omega (arith, l, f .clean .room);
+          many = good .many;
+          fine = λ k h.
+              by-eq k (length us)
+              (λ e. rw (snoc-last us v noUnit k e, e) (f .clean .fine))
+              (λ e. rw (snoc-before us v noUnit k (omega (arith, l))) (good .fine k (omega (arith, l))));
+          closed = λ k h. rw (snoc-before us v noUnit k (omega (arith, l))) (all-closed (f .closing) k (omega (arith, l)));
+          sane = rw (snoc-last us v noUnit (length (us ++ (v ∷ [])) - 1) (omega (arith, l))) (f .sane);
+          wells = good .wells;
+        }
 
     pub good-last : (w : UnitRecord) (to : ℕ) → GrowsFacts s at (markOf (bits8 s at) (bits8 s (at + 1))) (lastUnit d) (length (d .units)) w to
         → Good (withLast d (grownAt s at d))
     good-last w to f =
-      let us = d .units in
-      let v = grownAt s at d in
-      let i = length us - 1 in
-      let l = length-set us i v in
-      let some : i < length us = omega (arith, f .after) in
-      record {
-        few = omega (arith, l, good .few);
-        many = good .many;
-        fine = λ k h.
-            by-eq k i
-            (λ e. rw (e, getD-set-same us i v noUnit some) (f .kept i (good .fine i some)))
-            (λ e. rw (getD-set-other us i k v noUnit e) (good .fine k (omega (arith, l))));
-        closed = λ k h. rw (getD-set-other us i k v noUnit (omega (arith, l))) (good .closed k (omega (arith, l)));
-        sane = rw (l, getD-set-same us i v noUnit some) (f .sane);
-        wells = good .wells;
-      }
+        let us = d .units in
+        let v = grownAt s at d in
+        let i = length us - 1 in
+        let l = length-set us i v in
+        let some : i < length us = omega (arith, f .after) in
+        record {
+          few = omega (arith, l, good .few);
+          many = good .many;
+          fine = λ k h.
+              by-eq k i
+              (λ e. rw (e, getD-set-same us i v noUnit some) (f .kept i (good .fine i some)))
+              (λ e. rw (getD-set-other us i k v noUnit e) (good .fine k (omega (arith, l))));
+          closed = λ k h. rw (getD-set-other us i k v noUnit (omega (arith, l))) (good .closed k (omega (arith, l)));
+          sane = rw (l, getD-set-same us i v noUnit some) (f .sane);
+          wells = good .wells;
+        }
 
     pub good-aquifer : (a : Aquifer) (to : ℕ) → AddsFacts s (lastUnit d) (length (d .units)) (length (d .aquifers)) a to → Good (withAquifer d a)
     good-aquifer a to f =
-      let ws = d .aquifers in
-      let l = snoc-length ws a emptyAquifer in
-      record {
-        few = good .few;
-        many = omega (arith, l, f .clean .room);
-        fine = good .fine;
-        closed = good .closed;
-        sane = good .sane;
-        wells = λ k h.
-            by-eq k (length ws)
-            (λ e. rw (snoc-last ws a emptyAquifer k e) (f .clean .fine))
-            (λ e. rw (snoc-before ws a emptyAquifer k (omega (arith, l))) (good .wells k (omega (arith, l))));
-      }
+        let ws = d .aquifers in
+        let l = snoc-length ws a emptyAquifer in
+        record {
+          few = good .few;
+          many = omega (arith, l, f .clean .room);
+          fine = good .fine;
+          closed = good .closed;
+          sane = good .sane;
+          wells = λ k h.
+              by-eq k (length ws)
+              (λ e. rw (snoc-last ws a emptyAquifer k e) (f .clean .fine))
+              (λ e. rw (snoc-before ws a emptyAquifer k (omega (arith, l))) (good .wells k (omega (arith, l))));
+        }
 
 -- The units and aquifers that a description gives, by their index.
 abbrev unitIn : Description → ℕ → Unit

@@ -1,19 +1,20 @@
 -- The balances that the printed book goes through, written out: the one that it opens and those that its calls leave. Assumes nothing.
 use Prim.Native.Nat.{ℕ}
-use mathlib.Core.Path.{_≡_, refl, sym, subst}
+use mathlib.Core.Path.{_≡_, refl, sym, ap, subst, _∙_}
 use mathlib.Core.Bool.{true, false}
 use mathlib.Core.List.{List, [], _∷_}
 use lib.ListN.{replicate}
 use lib.IntN.{pos, negsuc}
+use native.Mathlib.Omega.{arith}
 use Rattle.laws.specs.Sum.{sumOf, every}
 use Rattle.laws.specs.Gather.{gather, gatherTo}
 use Rattle.laws.specs.Table.{table, tabulate}
 use Rattle.model.specs.declared.Unit.{Unit}
 use Rattle.model.specs.declared.Place.{Place}
 use Rattle.model.specs.declared.Title.{Title}
-use Rattle.model.specs.declared.Title.the-variants.{UnitWithdrawal, AquiferWithdrawal, AquiferTransfer}
+use Rattle.model.specs.declared.Title.the-variants.{UnitWithdrawal, AquiferWithdrawal, UnitTransfer, AquiferTransfer}
 use Rattle.model.specs.declared.Call.{Call}
-use Rattle.model.specs.declared.Call.the-variants.{Grant}
+use Rattle.model.specs.declared.Call.the-variants.{Grant, Cancel}
 use Rattle.model.specs.declared.Balance.{Balance}
 use Rattle.model.specs.declared.Answer.the-variants.{Accepted, Refused}
 use Rattle.model.specs.Fresh.{emptyUnit, emptyAquifer, emptyPlace}
@@ -22,18 +23,24 @@ use Rattle.model.specs.Answers.{firstFrom}
 use Rattle.runoff.specs.Soil.{coefficient, coefficients}
 use Rattle.runoff.specs.Year.{rainYear}
 use Rattle.runoff.specs.Mean.{rounded}
+use Rattle.runoff.specs.Record.{areaOf, weightedOf, yearsSum}
 use Rattle.river.specs.Flow.{flow}
 use Rattle.river.specs.Reserve.{committedTo, committed}
-use Rattle.basin.specs.Sound.{sound}
-use Rattle.reach.specs.Reach.{outletTo, outlet}
+use Rattle.basin.specs.Sound.{sound, flowing}
+use Rattle.reach.specs.Reach.{belowTo, liesBelow, outletTo, outlet}
 use Rattle.book.specs.declared.Opened.{Opened}
 use Rattle.book.specs.Reading.{next, readingFrom, opened}
 use Rattle.record.specs.Calls.{finished, callAt, callsFrom, callsOf, endingFrom, endingOf}
 use Rattle.book.proofs.Promises.{opening-sound}
 use Rattle.effect.specs.Granted.{granted}
 use Rattle.refusal.specs.Grant.{noWater}
+use Rattle.effect.specs.Cancelled.{cancelled}
+use Rattle.register.specs.declared.Reply.{Reply}
 use Rattle.register.specs.Reply.{grantReply}
-use Rattle.register.proofs.Replies.{reply-given, reply-dry}
+use Rattle.register.specs.Cancel.{cancelReply}
+use Rattle.register.specs.Calls.{callReply, after}
+use Rattle.register.proofs.Replies.{reply-early, reply-given, reply-dry}
+use Rattle.register.proofs.Leaving.{reply-cancelled}
 use Rattle.cases.specs.Printed.{printedDescription, printedCalls, printedBook}
 
 -- A unit with these entries, and 0 in all others.
@@ -97,7 +104,7 @@ lastBalance = bookBalance 5000 200 400 1500 (inForce firstTitle ∷ inForce four
 
 -- Opening the printed book gives the first of them, which is sound as every balance that is opened.
 pub printed-opens : opened printedBook ≡ record { answer = Accepted; place = 379; balance = printedBalance }
-unfolding printedBook printedDescription printedCalls printedBalance readingFrom next table tabulate firstFrom flow gather gatherTo sumOf rainYear coefficient coefficients rounded
+unfolding printedBook printedDescription printedCalls printedBalance readingFrom next table tabulate firstFrom flow gather gatherTo sumOf yearsSum areaOf weightedOf rainYear coefficient coefficients rounded
 printed-opens = refl
 
 pub printed-sound : sound (viewOf printedBalance) ≡ true
@@ -149,3 +156,67 @@ calls-are = refl
 pub ending-is : endingOf printedBook 379 ≡ finished
 unfolding printedBook printedDescription printedCalls endingFrom callAt
 ending-is = refl
+
+-- A transfer from unit 1 to unit 3, which lies below it, is refused.
+pub downstream-reply : grantReply printedBalance (UnitTransfer 1 3 100) ≡ record { answer = Refused 18; number = 0; balance = printedBalance }
+unfolding printedBalance liesBelow belowTo
+downstream-reply = sym (reply-early printedBalance (UnitTransfer 1 3 100) 18 printed-sound refl (omega arith))
+
+-- Two withdrawals from unit 3, and the balances after each and after the second is cancelled.
+abbrev pub sevenTitle : Title
+sevenTitle = UnitWithdrawal 3 1 7
+
+abbrev pub eightTitle : Title
+eightTitle = UnitWithdrawal 3 1 8
+
+unfoldable sevenBalance : Balance
+unfolding bookBalance
+sevenBalance = bookBalance 3007 0 1 1300 (inForce sevenTitle ∷ replicate 255 emptyPlace) 1
+
+unfoldable eightBalance : Balance
+unfolding bookBalance
+eightBalance = bookBalance 3015 0 2 1300 (inForce sevenTitle ∷ inForce eightTitle ∷ replicate 254 emptyPlace) 2
+
+unfoldable pub cancelledBalance : Balance
+unfolding bookBalance
+cancelledBalance =
+    bookBalance 3007 0 1 1300 (inForce sevenTitle ∷ record { title = eightTitle; «in_force» = false } ∷ replicate 254 emptyPlace) 2
+
+seven-water : noWater (granted (viewOf printedBalance) sevenTitle) sevenTitle ≡ false
+unfolding printedBalance flow gather gatherTo sumOf committed committedTo every outlet outletTo
+seven-water = refl
+
+seven-reply : grantReply printedBalance sevenTitle ≡ record { answer = Accepted; number = 1; balance = sevenBalance }
+unfolding printedBalance sevenBalance
+seven-reply = sym (reply-given printedBalance sevenTitle printed-sound refl seven-water)
+
+seven-sound : sound (viewOf sevenBalance) ≡ true
+unfolding sound sevenBalance flow gather gatherTo sumOf every
+seven-sound = refl
+
+eight-water : noWater (granted (viewOf sevenBalance) eightTitle) eightTitle ≡ false
+unfolding sevenBalance flow gather gatherTo sumOf committed committedTo every outlet outletTo
+eight-water = refl
+
+eight-reply : grantReply sevenBalance eightTitle ≡ record { answer = Accepted; number = 2; balance = eightBalance }
+unfolding sevenBalance eightBalance
+eight-reply = sym (reply-given sevenBalance eightTitle seven-sound refl eight-water)
+
+eight-sound : sound (viewOf eightBalance) ≡ true
+unfolding sound eightBalance flow gather gatherTo sumOf every
+eight-sound = refl
+
+eight-released : flowing (cancelled (viewOf eightBalance) 2) ≡ true
+unfolding eightBalance flow gather gatherTo sumOf every
+eight-released = refl
+
+cancelled-reply : cancelReply eightBalance 2 ≡ record { answer = Accepted; number = 2; balance = cancelledBalance }
+unfolding eightBalance cancelledBalance
+cancelled-reply = sym (reply-cancelled eightBalance 2 eight-sound refl eight-released)
+
+pub after-cancelled : after printedBalance (Grant sevenTitle ∷ Grant eightTitle ∷ Cancel 2 ∷ []) ≡ cancelledBalance
+unfolding after
+after-cancelled =
+    ap (λ (r : Reply). callReply (callReply (r .balance) (Grant eightTitle) .balance) (Cancel 2) .balance) seven-reply
+    ∙ ap (λ (r : Reply). callReply (r .balance) (Cancel 2) .balance) eight-reply
+    ∙ ap (λ (r : Reply). r .balance) cancelled-reply

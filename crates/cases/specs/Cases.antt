@@ -1,5 +1,5 @@
 -- The cases of document 01 ("Cases for the proof table") as one group of theorems of the definitions. Assumes nothing.
-use Prim.Native.Nat.{ℕ, _+_, _*_, _/_}
+use Prim.Native.Nat.{ℕ, _+_, _-_, _*_, _/_}
 use mathlib.Core.Path.{_≡_, refl, sym, ap, _∙_}
 use mathlib.Core.Bool.{true}
 use mathlib.Core.List.{List, [], _∷_, _++_}
@@ -8,15 +8,15 @@ use lib.IntN.{pos}
 use Rattle.laws.specs.Sum.{sumOf}
 use Rattle.laws.specs.Gather.{gather, gatherTo}
 use Rattle.laws.specs.Table.{table, tabulate}
-use Rattle.model.specs.declared.Title.the-variants.{UnitWithdrawal, AquiferWithdrawal, AquiferTransfer}
-use Rattle.model.specs.declared.Call.the-variants.{Grant}
+use Rattle.model.specs.declared.Title.the-variants.{UnitWithdrawal, AquiferWithdrawal, UnitTransfer, AquiferTransfer}
+use Rattle.model.specs.declared.Call.the-variants.{Grant, Cancel}
 use Rattle.model.specs.declared.Balance.{Balance}
-use Rattle.model.specs.declared.Answer.the-variants.{Accepted}
+use Rattle.model.specs.declared.Answer.the-variants.{Accepted, Refused}
 use Rattle.model.specs.View.{View, viewOf}
 use Rattle.runoff.specs.Soil.{coefficient, coefficients}
 use Rattle.runoff.specs.Year.{rainYear, rainParts}
 use Rattle.runoff.specs.Mean.{rounded}
-use Rattle.runoff.specs.Record.{Plot, areaOf, weightedOf, rainSum, rainRunoff}
+use Rattle.runoff.specs.Record.{Plot, areaOf, weightedOf}
 use Rattle.river.specs.Flow.{flow}
 use Rattle.river.specs.Reserve.{contribution, inflow, total, demand, committedTo, committed, ownReserve}
 use Rattle.figures.specs.Figures.{unitFigures, aquiferFigures, noUnitFigures, noAquiferFigures}
@@ -29,54 +29,33 @@ use Rattle.basin.proofs.Replies.{accepted-reply}
 use Rattle.book.specs.declared.Opened.{Opened}
 use Rattle.book.specs.Reading.{opened}
 use Rattle.record.specs.Calls.{callsOf}
+use Rattle.titles.specs.Adds.{returned}
+use Rattle.register.specs.declared.Reply.{Reply}
+use Rattle.register.specs.Reply.{grantReply}
 use Rattle.register.specs.Calls.{after}
 use Rattle.text.specs.Text.{ascii}
 use Rattle.listing.specs.Listing.{printed}
 use Rattle.cases.specs.Printed.{printedDescription, printedBook}
-use Rattle.cases.specs.Balances.{firstTitle, printedBalance, firstBalance, printed-opens, printed-sound, first-sound, calls-are}
+use Rattle.cases.specs.OneUnit.{meadow, forest, half, under, steady, uneven, mixed, gauges, rainBook, gaugedBook, opensOne, opens-a, opens-b, opens-c, opens-d, opens-e, opens-mixed, opens-gauged}
+use Rattle.cases.specs.Balances.{firstTitle, printedBalance, firstBalance, printed-opens, printed-sound, first-sound, calls-are, downstream-reply, sevenTitle, eightTitle, cancelledBalance, after-cancelled}
 use Rattle.cases.specs.Lines.{after-first, printed-is}
-
--- So many hectares of a cover on a soil.
-abbrev pub plot : ℕ → ℕ → ℕ → Plot
-plot cover soil hectares = record { cover = cover; soil = soil; hectares = hectares }
-
--- The soils of (a), of (b) and (c), of (d) and of (e).
-abbrev pub meadow : List Plot
-meadow = plot 14 2 10000 ∷ []
-
-abbrev pub forest : List Plot
-forest = plot 8 1 10000 ∷ []
-
-abbrev pub half : List Plot
-half = plot 8 1 8 ∷ plot 9 1 2 ∷ []
-
-abbrev pub under : List Plot
-under = plot 8 1 1 ∷ plot 9 1 6 ∷ []
-
--- The years of (c): ten of 400 mm, ten of 1200.
-abbrev pub uneven : List ℕ
-uneven = replicate 10 400 ++ replicate 10 1200
 
 -- The rain of some years together.
 abbrev pub rainTotal : List ℕ → ℕ
 rainTotal [] = 0
 rainTotal (mm ∷ years) = mm + rainTotal years
 
--- Nineteen years of 500 mm and one of 400.
-abbrev pub mixed : List ℕ
-mixed = replicate 19 500 ++ 400 ∷ []
-
 -- What a year of rain yields on soils, in 60,000,000ths of a thousand m³.
 abbrev pub yearOn : List Plot → ℕ → ℕ
 yearOn plots mm = rainYear (areaOf plots) (weightedOf plots) mm
 
--- A unit's line of the table: flow, committed, own reserve, availability. An aquifer's: recharge, availability.
-abbrev pub unitLine : ℕ → ℕ → ℕ → ℕ → UnitFigures
-unitLine flow committed reserve availability =
+-- A unit's row of the table: flow, committed, own reserve, availability. An aquifer's: recharge, availability.
+abbrev pub unitRow : ℕ → ℕ → ℕ → ℕ → UnitFigures
+unitRow flow committed reserve availability =
     record { flow = pos flow; committed = committed; reserve = reserve; availability = pos availability }
 
-abbrev pub aquiferLine : ℕ → ℕ → AquiferFigures
-aquiferLine recharge availability = record { recharge = pos recharge; availability = pos availability }
+abbrev pub aquiferRow : ℕ → ℕ → AquiferFigures
+aquiferRow recharge availability = record { recharge = pos recharge; availability = pos availability }
 
 -- The view of the balance that the printed book opens.
 abbrev pub printedView : View
@@ -94,11 +73,11 @@ tableOf first second third well =
 -- The table of the printed book before any call, and after call 1.
 abbrev pub beforeCalls : Figures
 beforeCalls =
-    tableOf (unitLine 10080 3063 3063 7017) (unitLine 1540 468 468 1072) (unitLine 10160 1000 469 9160) (aquiferLine 2000 200)
+    tableOf (unitRow 10080 3063 3063 7017) (unitRow 1540 468 468 1072) (unitRow 10160 1000 469 9160) (aquiferRow 2000 200)
 
 abbrev pub afterFirstCall : Figures
 afterFirstCall =
-    tableOf (unitLine 10080 4460 4460 5620) (unitLine 1540 681 681 859) (unitLine 8560 1000 859 7560) (aquiferLine 2000 200)
+    tableOf (unitRow 10080 4460 4460 5620) (unitRow 1540 681 681 859) (unitRow 8560 1000 859 7560) (aquiferRow 2000 200)
 
 -- What a contributor of c would get of unit 3's demand if its share were floored alone.
 abbrev pub flooredAlone : View → ℕ → ℕ
@@ -106,22 +85,24 @@ flooredAlone v c = demand (v .unit 2) (committed v 2) * c / total v 2
 
 -- The cases, by their letters.
 pub record CasesHold : Type 0 where
-  -- (a) cover 14 soil 2, twenty years of 800 mm; (b) cover 8 soil 1.
-  pub a : rainRunoff meadow (replicate 20 800) ≡ 10080
-  pub b : rainRunoff forest (replicate 20 800) ≡ 1540
+  -- (a) cover 14 soil 2, twenty years of 800 mm; (b) cover 8 soil 1. The book of such a unit is accepted and opens this natural runoff.
+  pub a : opened (rainBook meadow (steady 800)) ≡ opensOne 119 10080
+  pub b : opened (rainBook forest (steady 800)) ≡ opensOne 119 1540
   -- (c) as b, ten years 400 mm, ten 1200. The formula applied to the mean rain, which is 800 mm, would give 1540.
-  pub c : rainRunoff forest uneven ≡ 2100
+  pub c : opened (rainBook forest uneven) ≡ opensOne 119 2100
   pub c-mean : rainTotal uneven ≡ 20 * 800
   pub c-mean-rain : rounded (yearOn forest 800) rainParts ≡ 1540
   -- (d) 500 m³ a year, so 1.
   pub d-year : 1000 * yearOn half 500 ≡ 500 * rainParts
-  pub d : rainRunoff half (replicate 20 500) ≡ 1
+  pub d : opened (rainBook half (steady 500)) ≡ opensOne 127 1
   -- (e) 493.75 m³ a year, so 0.
   pub e-year : 100000 * yearOn under 500 ≡ 49375 * rainParts
-  pub e : rainRunoff under (replicate 20 500) ≡ 0
+  pub e : opened (rainBook under (steady 500)) ≡ opensOne 127 0
   -- Rounded once: on the soils of (d) nineteen years of 500 m³ and one of 240 give 0, though each year rounded would give 1.
-  pub rounded-once : rainRunoff half mixed ≡ 0
+  pub rounded-once : opened (rainBook half mixed) ≡ opensOne 127 0
   pub each-year-rounded : rounded (19 * rounded (yearOn half 500) rainParts + rounded (yearOn half 400) rainParts) 20 ≡ 1
+  -- Gauged years: nineteen of 1000 − 200 + 30 + 40 − 50 − 60 + 7 − 8 = 759 and one of 769. Their mean is 759.5, and a half goes up.
+  pub gauged : opened (gaugedBook gauges) ≡ opensOne 711 760
   -- (f) the printed book before any call: it is accepted, its description ends where the calls begin, and its figures are
   -- those of the table.
   pub f-accepted : opened printedBook .answer ≡ Accepted
@@ -144,20 +125,17 @@ pub record CasesHold : Type 0 where
       printed printedBook
       ≡ ascii
       "call 1 given 1\ncall 2 refused 17\ncall 3 refused 17\ncall 4 given 2\nunit 1 10080 4395 4395 5685\nunit 2 1540 671 671 869\nunit 3 8760 1000 934 7760\naquifer 1 2000 0\n"
+  -- A transfer from unit 1 to unit 3, which lies below it, is refused.
+  pub transfer-downstream :
+      grantReply (opened printedBook .balance) (UnitTransfer 1 3 100)
+      ≡ record { answer = Refused 18; number = 0; balance = opened printedBook .balance }
+  -- Withdrawals of 7 and 8 for agriculture return 1 each; with the second cancelled 1 is left. Worked from their sum, which returns 3, the
+  -- second's return would be 2 and none would be left.
+  pub cancelled-return :
+      viewOf (after (opened printedBook .balance) (Grant (UnitWithdrawal 3 1 7) ∷ Grant (UnitWithdrawal 3 1 8) ∷ Cancel 2 ∷ [])) .unit 2 .returns ≡ 1
+  pub cancelled-from-the-sum : returned 1 7 + returned 1 8 - (returned 1 (7 + 8) - returned 1 7) ≡ 0
 
--- (a) to (e) are computed.
-case-a : rainRunoff meadow (replicate 20 800) ≡ 10080
-unfolding rainRunoff rainSum rainYear areaOf weightedOf coefficient coefficients rounded
-case-a = refl
-
-case-b : rainRunoff forest (replicate 20 800) ≡ 1540
-unfolding rainRunoff rainSum rainYear areaOf weightedOf coefficient coefficients rounded
-case-b = refl
-
-case-c : rainRunoff forest uneven ≡ 2100
-unfolding rainRunoff rainSum rainYear areaOf weightedOf coefficient coefficients rounded
-case-c = refl
-
+-- What the misreadings of (c), (d) and (e) would give.
 case-c-mean : rainTotal uneven ≡ 20 * 800
 case-c-mean = refl
 
@@ -169,21 +147,9 @@ case-d-year : 1000 * yearOn half 500 ≡ 500 * rainParts
 unfolding rainYear areaOf weightedOf coefficient coefficients
 case-d-year = refl
 
-case-d : rainRunoff half (replicate 20 500) ≡ 1
-unfolding rainRunoff rainSum rainYear areaOf weightedOf coefficient coefficients rounded
-case-d = refl
-
 case-e-year : 100000 * yearOn under 500 ≡ 49375 * rainParts
 unfolding rainYear areaOf weightedOf coefficient coefficients
 case-e-year = refl
-
-case-e : rainRunoff under (replicate 20 500) ≡ 0
-unfolding rainRunoff rainSum rainYear areaOf weightedOf coefficient coefficients rounded
-case-e = refl
-
-case-once : rainRunoff half mixed ≡ 0
-unfolding rainRunoff rainSum rainYear areaOf weightedOf coefficient coefficients rounded
-case-once = refl
 
 case-each : rounded (19 * rounded (yearOn half 500) rainParts + rounded (yearOn half 400) rainParts) 20 ≡ 1
 unfolding rainYear areaOf weightedOf coefficient coefficients rounded
@@ -248,21 +214,30 @@ figures-after : figuresReply (viewOf firstBalance) ≡ afterFirstCall
 unfolding firstBalance
 figures-after = figures-are (viewOf firstBalance) first-sound refl refl ∙ table-after
 
+-- A refused call.
+abbrev refusedReply : ℕ → Balance → Reply
+refusedReply n b = record { answer = Refused n; number = 0; balance = b }
+
+returns-left : viewOf cancelledBalance .unit 2 .returns ≡ 1
+unfolding cancelledBalance
+returns-left = refl
+
 -- The cases hold.
 pub cases-hold : CasesHold
 cases-hold =
     record {
-      a = case-a;
-      b = case-b;
-      c = case-c;
+      a = opens-a;
+      b = opens-b;
+      c = opens-c;
       c-mean = case-c-mean;
       c-mean-rain = case-c-mean-rain;
       d-year = case-d-year;
-      d = case-d;
+      d = opens-d;
       e-year = case-e-year;
-      e = case-e;
-      rounded-once = case-once;
+      e = opens-e;
+      rounded-once = opens-mixed;
       each-year-rounded = case-each;
+      gauged = opens-gauged;
       f-accepted = ap (λ (o : Opened). o .answer) printed-opens;
       f-place = ap (λ (o : Opened). o .place) printed-opens ∙ ends;
       f = ap figuresReply is-view ∙ figures-before;
@@ -277,4 +252,13 @@ cases-hold =
           ∙ figures-after;
       h-calls = ap (λ (o : Opened). callsOf printedBook (o .place)) printed-opens ∙ calls-are;
       h = printed-is;
+      transfer-downstream =
+          ap (λ (o : Opened). grantReply (o .balance) (UnitTransfer 1 3 100)) printed-opens
+          ∙ downstream-reply
+          ∙ sym (ap (λ (o : Opened). refusedReply 18 (o .balance)) printed-opens);
+      cancelled-return =
+          ap (λ (o : Opened). viewOf (after (o .balance) (Grant sevenTitle ∷ Grant eightTitle ∷ Cancel 2 ∷ [])) .unit 2 .returns) printed-opens
+          ∙ ap (λ (b : Balance). viewOf b .unit 2 .returns) after-cancelled
+          ∙ returns-left;
+      cancelled-from-the-sum = refl;
     }

@@ -2,6 +2,7 @@
 use Prim.Native.Nat.{ℕ, zero, suc, _-_, _/_, _%_, _^_}
 use mathlib.Core.List.{List, [], _∷_, _++_}
 use lib.IntN.{ℤ, pos, negsuc}
+use Rattle.runoff.specs.Record.{Gauged}
 
 -- 16 and 32 bits, little-endian.
 abbrev pub bytes16 : ℕ → List ℕ
@@ -32,6 +33,12 @@ soilBytes cover soil hectares = 83 ∷ 85 ∷ cover ∷ soil ∷ bytes32 hectare
 -- PR: one year's rain.
 abbrev pub rainBytes : ℕ → List ℕ
 rainBytes mm = 80 ∷ 82 ∷ bytes16 mm
+
+-- AF: one gauged year.
+abbrev pub gaugeBytes : Gauged → List ℕ
+gaugeBytes y =
+    65 ∷ 70 ∷ bytes32 (y .outflow) ++ bytes32 (y .inflow) ++ bytes32 (y .extraction) ++ bytes32 (y .exports) ++ bytes32 (y .imports)
+    ++ bytes32 (y .returns) ++ bytes32 (y .evaporation) ++ signedBytes32 (y .storage)
 
 -- AC: storage change, natural, pumped and committed natural discharge, extraction already titled.
 abbrev pub aquiferBytes : ℤ → ℕ → ℕ → ℕ → ℕ → List ℕ

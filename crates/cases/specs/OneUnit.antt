@@ -1,0 +1,143 @@
+-- Books of one unit, and the balances that they open. Assumes nothing.
+use Prim.Native.Nat.{ℕ, _+_, _*_}
+use mathlib.Core.Path.{_≡_, refl}
+use mathlib.Core.List.{List, [], _∷_, _++_}
+use lib.ListN.{length, replicate}
+use lib.IntN.{ℤ, pos, negsuc}
+use Rattle.laws.specs.Sum.{sumOf}
+use Rattle.laws.specs.Gather.{gather, gatherTo}
+use Rattle.laws.specs.Table.{table, tabulate}
+use Rattle.model.specs.declared.Balance.{Balance}
+use Rattle.model.specs.declared.Answer.the-variants.{Accepted}
+use Rattle.model.specs.Fresh.{emptyUnit, emptyAquifer, emptyPlace}
+use Rattle.model.specs.Answers.{firstFrom}
+use Rattle.runoff.specs.Soil.{coefficient, coefficients}
+use Rattle.runoff.specs.Year.{rainYear}
+use Rattle.runoff.specs.Mean.{rounded}
+use Rattle.runoff.specs.Record.{Plot, Gauged, areaOf, weightedOf, yearsSum}
+use Rattle.river.specs.Flow.{flow}
+use Rattle.book.specs.declared.Opened.{Opened}
+use Rattle.book.specs.Reading.{next, readingFrom, opened}
+use Rattle.cases.specs.Printed.{unitBytes, soilBytes, rainBytes, gaugeBytes}
+
+-- So many hectares of a cover on a soil.
+abbrev pub plot : ℕ → ℕ → ℕ → Plot
+plot cover soil hectares = record { cover = cover; soil = soil; hectares = hectares }
+
+-- The soils of (a), of (b) and (c), of (d) and of (e).
+abbrev pub meadow : List Plot
+meadow = plot 14 2 10000 ∷ []
+
+abbrev pub forest : List Plot
+forest = plot 8 1 10000 ∷ []
+
+abbrev pub half : List Plot
+half = plot 8 1 8 ∷ plot 9 1 2 ∷ []
+
+abbrev pub under : List Plot
+under = plot 8 1 1 ∷ plot 9 1 6 ∷ []
+
+-- Twenty years of so much rain; the years of (c), ten of 400 mm and ten of 1200; nineteen years of 500 mm and one of 400.
+abbrev pub steady : ℕ → List ℕ
+steady mm = replicate 20 mm
+
+abbrev pub uneven : List ℕ
+uneven = replicate 10 400 ++ replicate 10 1200
+
+abbrev pub mixed : List ℕ
+mixed = replicate 19 500 ++ 400 ∷ []
+
+-- A gauged year with this storage change, and another number in each field.
+abbrev pub gaugedYear : ℤ → Gauged
+gaugedYear storage =
+    record {
+      outflow = 1000;
+      inflow = 200;
+      extraction = 30;
+      exports = 40;
+      imports = 50;
+      returns = 60;
+      evaporation = 7;
+      storage = storage;
+    }
+
+-- Nineteen years with a falling storage and one with a rising one.
+abbrev pub gauges : List Gauged
+gauges = replicate 19 (gaugedYear (negsuc 7)) ++ gaugedYear (pos 2) ∷ []
+
+-- The bytes of soil records, of rain years and of gauged years.
+abbrev plotsBytes : List Plot → List ℕ
+plotsBytes [] = []
+plotsBytes (p ∷ plots) = soilBytes (p .cover) (p .soil) (p .hectares) ++ plotsBytes plots
+
+abbrev rainsBytes : List ℕ → List ℕ
+rainsBytes [] = []
+rainsBytes (mm ∷ years) = rainBytes mm ++ rainsBytes years
+
+abbrev gaugesBytes : List Gauged → List ℕ
+gaugesBytes [] = []
+gaugesBytes (y ∷ years) = gaugeBytes y ++ gaugesBytes years
+
+-- The book of one outlet with 0 in all its entries, with soil records and rain years, or with gauged years.
+abbrev pub rainBook : List Plot → List ℕ → List ℕ
+rainBook plots rains = unitBytes 0 0 0 ++ plotsBytes plots ++ rainsBytes rains
+
+abbrev pub gaugedBook : List Gauged → List ℕ
+gaugedBook years = unitBytes 0 0 0 ++ gaugesBytes years
+
+-- Such a book is accepted, ends after so many bytes, and opens a balance of one unit with this natural runoff and 0 in all other places.
+abbrev pub opensOne : ℕ → ℕ → Opened
+opensOne size runoff =
+    record {
+      answer = Accepted;
+      place = size;
+      balance =
+          record {
+            units =
+                record {
+                  downstream = 0;
+                  extraction = 0;
+                  exports = 0;
+                  imports = 0;
+                  returns = 0;
+                  evaporation = 0;
+                  storage = pos 0;
+                  commitment = 0;
+                  runoff = runoff;
+                }
+                ∷ replicate 63 emptyUnit;
+            «unit_count» = 1;
+            aquifers = replicate 32 emptyAquifer;
+            «aquifer_count» = 0;
+            titles = replicate 256 emptyPlace;
+            given = 0;
+          };
+    }
+
+pub opens-a : opened (rainBook meadow (steady 800)) ≡ opensOne 119 10080
+unfolding readingFrom next table tabulate firstFrom flow gather gatherTo sumOf yearsSum areaOf weightedOf rainYear coefficient coefficients rounded
+opens-a = refl
+
+pub opens-b : opened (rainBook forest (steady 800)) ≡ opensOne 119 1540
+unfolding readingFrom next table tabulate firstFrom flow gather gatherTo sumOf yearsSum areaOf weightedOf rainYear coefficient coefficients rounded
+opens-b = refl
+
+pub opens-c : opened (rainBook forest uneven) ≡ opensOne 119 2100
+unfolding readingFrom next table tabulate firstFrom flow gather gatherTo sumOf yearsSum areaOf weightedOf rainYear coefficient coefficients rounded
+opens-c = refl
+
+pub opens-d : opened (rainBook half (steady 500)) ≡ opensOne 127 1
+unfolding readingFrom next table tabulate firstFrom flow gather gatherTo sumOf yearsSum areaOf weightedOf rainYear coefficient coefficients rounded
+opens-d = refl
+
+pub opens-e : opened (rainBook under (steady 500)) ≡ opensOne 127 0
+unfolding readingFrom next table tabulate firstFrom flow gather gatherTo sumOf yearsSum areaOf weightedOf rainYear coefficient coefficients rounded
+opens-e = refl
+
+pub opens-mixed : opened (rainBook half mixed) ≡ opensOne 127 0
+unfolding readingFrom next table tabulate firstFrom flow gather gatherTo sumOf yearsSum areaOf weightedOf rainYear coefficient coefficients rounded
+opens-mixed = refl
+
+pub opens-gauged : opened (gaugedBook gauges) ≡ opensOne 711 760
+unfolding readingFrom next table tabulate firstFrom flow gather gatherTo sumOf yearsSum areaOf weightedOf rounded
+opens-gauged = refl
