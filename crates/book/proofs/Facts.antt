@@ -16,11 +16,12 @@ use Rattle.book.specs.declared.Next.{Next}
 use Rattle.book.specs.declared.Next.the-variants.{Ends, Refused, Opens, Grows, Adds}
 use Rattle.record.specs.Bytes.{bits8, bits16, bits32}
 use Rattle.record.specs.Record.{unitRecord, aquiferRecord, markOf}
-use Rattle.record.specs.Described.{DescribedUnit, unitAt, plotAt, rainAt, gaugeAt, withRecord, summed}
+use Rattle.record.specs.Described.{DescribedUnit, unitAt, plotAt, rainAt, gaugedAt, gaugeAt, withRecord, summed}
 use Rattle.record.specs.Fault.{Sane, closingFault, unitFault, soilFault, rainFault, gaugeFault, aquiferFault, gaugeOutsideAt}
 use Rattle.book.specs.Reading.{unless, whole, unitStep, soilStep, rainStep, gaugeStep, aquiferStep, marked, next}
 use Rattle.record.proofs.Faults.{soil-clean, rain-clean, gauge-clean, range-at}
 use Rattle.record.proofs.Clean.{Fine, UnitClean, unit-clean, AquiferClean, aquifer-clean, year-sane, soil-sane}
+use Rattle.record.proofs.Means.{Kind, plot-kind, rain-kind, gauge-kind}
 use Rattle.record.proofs.Summing.{summed-unit, summed-plot, summed-year, keep-records}
 
 -- What holds of each thing that the record at an offset does to a description whose open unit is x: it opens the unit of its UN, or puts
@@ -37,6 +38,7 @@ pub record GrowsFacts (s : List ℕ) (at : ℕ) (m : Mark) (x : DescribedUnit) (
   pub told : v ≡ summed (withRecord m s at x)
   pub sane : Sane (summed (withRecord m s at x))
   pub kept : (k : ℕ) → Fine k (summed x) → Fine k (summed (withRecord m s at x))
+  pub kind : Kind x → Kind (withRecord m s at x)
   pub within : to ≤ length s
 
 pub record AddsFacts (s : List ℕ) (x : DescribedUnit) (units aquifers : ℕ) (a : Aquifer) (to : ℕ) : Type 0 where
@@ -100,6 +102,7 @@ module _ (s : List ℕ) (at : ℕ) (x : DescribedUnit) (units aquifers : ℕ) (s
         told = sym same;
         sane = subst⁻¹ Sane same (soil-sane u _ _ _ sane (c .fresh) (c .room) (c .known) (c .area));
         kept = keep-records x _ _;
+        kind = λ d. plot-kind x (plotAt s at) (c .fresh);
         within = omega arith;
       }))
 
@@ -118,6 +121,7 @@ module _ (s : List ℕ) (at : ℕ) (x : DescribedUnit) (units aquifers : ℕ) (s
             subst⁻¹ Sane same
             (year-sane u _ sane (c .room) (record { gain = omega (arith, rain-within (u .hectares) (u .weighted) (bits16 s (at + 2)) range); loss = omega arith }) (λ n. refl));
         kept = keep-records x _ _;
+        kind = rain-kind x (bits16 s (at + 2)) (c .soiled);
         within = omega arith;
       }))
 
@@ -133,6 +137,7 @@ module _ (s : List ℕ) (at : ℕ) (x : DescribedUnit) (units aquifers : ℕ) (s
         told = sym same;
         sane = subst⁻¹ Sane same (year-sane u _ sane (c .room) (range-at s at (c .inside)) (λ n. absurd (n (c .bare))));
         kept = keep-records x _ _;
+        kind = gauge-kind x (gaugedAt s at) (c .bare);
         within = omega arith;
       }))
 

@@ -21,6 +21,7 @@ use Rattle.record.specs.Fault.{Sane, Closed, closingFault}
 use Rattle.book.specs.Reading.{Description, lastUnit, lastSums, grownAt, withUnit, withLast, withAquifer, balanceOf}
 use Rattle.book.specs.Opening.{putAquifer, counted, stored, fullOf, draft}
 use Rattle.record.proofs.Clean.{Fine, WellFine, closing-clean}
+use Rattle.record.proofs.Means.{Kind, bare-kind}
 use Rattle.record.proofs.Summing.{summed-none}
 use Rattle.book.proofs.Facts.{OpensFacts, GrowsFacts, AddsFacts}
 
@@ -42,6 +43,7 @@ pub record Good (d : Description) : Type 0 where
   pub fine : (k : ℕ) → k < length (d .units) → Fine k (summed (getD (d .units) k noUnit))
   pub closed : (k : ℕ) → suc k < length (d .units) → Closed (summed (getD (d .units) k noUnit))
   pub sane : Sane (lastSums d)
+  pub kinds : (k : ℕ) → k < length (d .units) → Kind (getD (d .units) k noUnit)
   pub wells : (k : ℕ) → k < length (d .aquifers) → WellFine (getD (d .aquifers) k emptyAquifer)
 
 pub good-start : Good (record { units = []; aquifers = [] })
@@ -54,6 +56,7 @@ good-start =
       sane =
           subst⁻¹ Sane summed-none
           (record { few = omega arith; area = omega arith; weight = omega arith; short = omega arith; gains = omega arith; losses = omega arith; rain = λ n. refl });
+      kinds = λ k h. absurd (omega arith);
       wells = λ k h. absurd (omega arith);
     }
 
@@ -82,6 +85,10 @@ module _ (d : Description) (good : Good d) where
               (λ e. rw (snoc-before us v noUnit k (omega (arith, l))) (good .fine k (omega (arith, l))));
           closed = λ k h. rw (snoc-before us v noUnit k (omega (arith, l))) (all-closed (f .closing) k (omega (arith, l)));
           sane = rw (snoc-last us v noUnit (length (us ++ (v ∷ [])) - 1) (omega (arith, l))) (f .sane);
+        kinds = λ k h.
+            by-eq k (length us)
+            (λ e. rw (snoc-last us v noUnit k e) (bare-kind v refl refl))
+            (λ e. rw (snoc-before us v noUnit k (omega (arith, l))) (good .kinds k (omega (arith, l))));
           wells = good .wells;
         }
 
@@ -102,6 +109,10 @@ module _ (d : Description) (good : Good d) where
               (λ e. rw (getD-set-other us i k v noUnit e) (good .fine k (omega (arith, l))));
           closed = λ k h. rw (getD-set-other us i k v noUnit (omega (arith, l))) (good .closed k (omega (arith, l)));
           sane = rw (l, getD-set-same us i v noUnit some) (f .sane);
+        kinds = λ k h.
+            by-eq k i
+            (λ e. rw (e, getD-set-same us i v noUnit some) (f .kind (good .kinds i some)))
+            (λ e. rw (getD-set-other us i k v noUnit e) (good .kinds k (omega (arith, l))));
           wells = good .wells;
         }
 
@@ -115,6 +126,7 @@ module _ (d : Description) (good : Good d) where
           fine = good .fine;
           closed = good .closed;
           sane = good .sane;
+          kinds = good .kinds;
           wells = λ k h.
               by-eq k (length ws)
               (λ e. rw (snoc-last ws a emptyAquifer k e) (f .clean .fine))

@@ -42,6 +42,7 @@ use Rattle.record.specs.Described.{DescribedUnit, noUnit, summed, unitOf}
 use Rattle.record.specs.Fault.{Closed, closingFault, unitFault, soilFault, rainFault, gaugeFault, aquiferFault, gaugeOutsideAt}
 use Rattle.book.specs.Reading.{Description, lastUnit, lastSums, balanceOf, marked, next, Outcome, read, refused, faultAt, ended, readingFrom, reading, openedAs, opened}
 use Rattle.record.proofs.Clean.{Fine, WellFine}
+use Rattle.record.proofs.Means.{MeanOfYears, mean-of-years}
 use Rattle.book.proofs.Facts.{Facts, next-facts, through-unless, through-whole}
 use Rattle.book.proofs.Growing.{Good, good-start, good-unit, good-last, good-aquifer, all-closed}
 use Rattle.book.proofs.Finishing.{unit-at, well-at}
@@ -234,6 +235,16 @@ AllClosed (refused n p) = Unit {0}
 -- Each unit of an accepted description is closed: it has 20 to 50 years.
 pub units-closed : (s : List ℕ) (d : Description) (at : ℕ) → reading s ≡ read d at → (k : ℕ) → k < length (d .units) → Closed (summed (getD (d .units) k noUnit))
 units-closed s d at e = subst AllClosed e (through-reading AllClosed (λ n p. tt) (λ x good c m f to. all-closed x good c) s)
+
+-- The natural runoff of each unit of an accepted description is the mean of its years, rounded once.
+abbrev AllMeans : Outcome → Type 0
+AllMeans (read d at) = (k : ℕ) → k < length (d .units) → MeanOfYears (getD (d .units) k noUnit)
+AllMeans (refused n p) = Unit {0}
+
+pub runoff-is-mean : (s : List ℕ) (d : Description) (at : ℕ) → reading s ≡ read d at → (k : ℕ) → k < length (d .units)
+    → MeanOfYears (getD (d .units) k noUnit)
+runoff-is-mean s d at e =
+    subst AllMeans e (through-reading AllMeans (λ n p. tt) (λ x good c m f to k h. mean-of-years _ (good .kinds k h)) s)
 
 -- What opening a book answers: accepted exactly when reading ends with a description, with its balance and the offset where it ends;
 -- refused, the fresh balance.

@@ -1,6 +1,7 @@
 -- A unit as its book describes it, by its records (document 01, "The book"). Assumes nothing.
-use Prim.Native.Nat.{ℕ, _+_}
-use mathlib.Core.List.{List, [], _∷_, _++_}
+use Prim.Native.Nat.{ℕ, _+_, _<_}
+use mathlib.Core.Path.{_≡_}
+use mathlib.Core.List.{List, [], _∷_, _++_, map}
 use lib.IntN.{ℤ, pos}
 use lib.ListN.{length}
 use Rattle.model.specs.declared.Unit.{Unit}
@@ -101,6 +102,17 @@ withRecord Af s at u = addYear u (gaugeAt s at)
 withRecord Ac s at u = u
 withRecord Call s at u = u
 withRecord Unknown s at u = u
+
+-- A unit has either soil records and then rain years, or gauged years and no soil records.
+pub record RainUnit (u : DescribedUnit) : Type 0 where
+  pub rains : List ℕ
+  pub soiled : 0 < length (u .plots)
+  pub all-rain : u .years ≡ map ofRain rains
+
+pub record GaugedUnit (u : DescribedUnit) : Type 0 where
+  pub gauges : List Gauged
+  pub bare : u .plots ≡ []
+  pub all-gauged : u .years ≡ map ofGauge gauges
 
 -- Before the first UN there is no unit.
 abbrev pub noUnit : DescribedUnit
