@@ -16,13 +16,13 @@ use Rattle.book.specs.declared.Next.{Next}
 use Rattle.book.specs.declared.Next.the-variants.{Ends, Refused, Opens, Grows, Adds}
 use Rattle.record.specs.Bytes.{bits8, bits16, bits32}
 use Rattle.record.specs.Record.{unitRecord, aquiferRecord, markOf}
-use Rattle.record.specs.Described.{DescribedUnit, unitAt, plotAt, rainAt, gaugedAt, gaugeAt, withRecord, summed}
+use Rattle.record.specs.Described.{DescribedUnit, unitAt, plotAt, gaugedAt, withRecord, summed}
 use Rattle.record.specs.Fault.{Sane, closingFault, unitFault, soilFault, rainFault, gaugeFault, aquiferFault, gaugeOutsideAt}
 use Rattle.book.specs.Reading.{unless, whole, unitStep, soilStep, rainStep, gaugeStep, aquiferStep, marked, next}
 use Rattle.record.proofs.Faults.{soil-clean, rain-clean, gauge-clean, range-at}
 use Rattle.record.proofs.Clean.{Fine, UnitClean, unit-clean, AquiferClean, aquifer-clean, year-sane, soil-sane}
 use Rattle.record.proofs.Means.{Kind, plot-kind, rain-kind, gauge-kind}
-use Rattle.record.proofs.Summing.{summed-unit, summed-plot, summed-year, keep-records}
+use Rattle.record.proofs.Summing.{summed-unit, summed-soil, summed-rain, summed-gauge, keep-records}
 
 -- What holds of each thing that the record at an offset does to a description whose open unit is x: it opens the unit of its UN, or puts
 -- itself into x, and the sums that it tells are those of that unit.
@@ -96,7 +96,7 @@ module _ (s : List ℕ) (at : ℕ) (x : DescribedUnit) (units aquifers : ℕ) (s
       (λ h. through-unless (MarkFacts s at Su x units aquifers) (no Su) (soilFault units aquifers u (bits8 s (at + 2)) (bits8 s (at + 3)) (bits32 s (at + 4))) at _
       (λ e.
       let c = soil-clean units aquifers u (bits8 s (at + 2)) (bits8 s (at + 3)) (bits32 s (at + 4)) e in
-      let same = summed-plot x (plotAt s at) (c .fresh) in
+      let same = summed-soil s at x (c .fresh) in
       record {
         after = c .after;
         told = sym same;
@@ -112,7 +112,7 @@ module _ (s : List ℕ) (at : ℕ) (x : DescribedUnit) (units aquifers : ℕ) (s
       (λ h. through-unless (MarkFacts s at Pr x units aquifers) (no Pr) (rainFault units aquifers u (bits16 s (at + 2))) at _
       (λ e.
       let c = rain-clean units aquifers u (bits16 s (at + 2)) e in
-      let same = summed-year x (rainAt s at) in
+      let same = summed-rain s at x in
       let range : RainRange (u .hectares) (u .weighted) (bits16 s (at + 2)) = record { areaTo = sane .area; weightedTo = sane .weight; rainTo = c .most } in
       record {
         after = c .after;
@@ -131,7 +131,7 @@ module _ (s : List ℕ) (at : ℕ) (x : DescribedUnit) (units aquifers : ℕ) (s
       (λ h. through-unless (MarkFacts s at Af x units aquifers) (no Af) (gaugeFault units aquifers u (gaugeOutsideAt s at)) at _
       (λ e.
       let c = gauge-clean units aquifers u (gaugeOutsideAt s at) e in
-      let same = summed-year x (gaugeAt s at) in
+      let same = summed-gauge s at x in
       record {
         after = c .after;
         told = sym same;

@@ -3,7 +3,6 @@ use Prim.Native.Nat.{ℕ, zero, suc, _+_, _≤_, _<_}
 use mathlib.Core.Path.{_≡_, refl, sym, ap, _∙_, subst⁻¹}
 use mathlib.Core.Logic.{_⊎_}
 use mathlib.Core.Bool.{Bool, not}
-use mathlib.Core.List.{[]}
 use lib.Dec.{ltb}
 use lib.Signed.{nonNeg}
 use lib.ListN.{length, getD}
@@ -23,7 +22,7 @@ use Rattle.runoff.specs.Record.{gaugedOn, sumOn}
 use Rattle.runoff.proofs.Rounding.{natural-within}
 use Rattle.record.specs.Described.{DescribedUnit, noUnit, summed, unitOf}
 use Rattle.record.specs.Fault.{Closed, closingFault}
-use Rattle.book.specs.Reading.{Description, lastUnit, lastSums, balanceOf, Outcome, read, faultAt, ended, openedAs}
+use Rattle.book.specs.Reading.{Description, lastSums, balanceOf, Outcome, read, faultAt, ended, openedAs}
 use Rattle.book.specs.Opening.{draft, missing, negative, unlessAt, testedWith, endedWith, Bounded, EndReady}
 use Rattle.record.proofs.Clean.{Fine, closing-clean}
 use Rattle.book.proofs.Growing.{Good, all-closed, full-is}

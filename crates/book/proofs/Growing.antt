@@ -85,10 +85,10 @@ module _ (d : Description) (good : Good d) where
               (λ e. rw (snoc-before us v noUnit k (omega (arith, l))) (good .fine k (omega (arith, l))));
           closed = λ k h. rw (snoc-before us v noUnit k (omega (arith, l))) (all-closed (f .closing) k (omega (arith, l)));
           sane = rw (snoc-last us v noUnit (length (us ++ (v ∷ [])) - 1) (omega (arith, l))) (f .sane);
-        kinds = λ k h.
-            by-eq k (length us)
-            (λ e. rw (snoc-last us v noUnit k e) (bare-kind v refl refl))
-            (λ e. rw (snoc-before us v noUnit k (omega (arith, l))) (good .kinds k (omega (arith, l))));
+          kinds = λ k h.
+              by-eq k (length us)
+              (λ e. rw (snoc-last us v noUnit k e) (bare-kind v refl refl))
+              (λ e. rw (snoc-before us v noUnit k (omega (arith, l))) (good .kinds k (omega (arith, l))));
           wells = good .wells;
         }
 
@@ -109,10 +109,10 @@ module _ (d : Description) (good : Good d) where
               (λ e. rw (getD-set-other us i k v noUnit e) (good .fine k (omega (arith, l))));
           closed = λ k h. rw (getD-set-other us i k v noUnit (omega (arith, l))) (good .closed k (omega (arith, l)));
           sane = rw (l, getD-set-same us i v noUnit some) (f .sane);
-        kinds = λ k h.
-            by-eq k i
-            (λ e. rw (e, getD-set-same us i v noUnit some) (f .kind (good .kinds i some)))
-            (λ e. rw (getD-set-other us i k v noUnit e) (good .kinds k (omega (arith, l))));
+          kinds = λ k h.
+              by-eq k i
+              (λ e. rw (e, getD-set-same us i v noUnit some) (f .kind (good .kinds i some)))
+              (λ e. rw (getD-set-other us i k v noUnit e) (good .kinds k (omega (arith, l))));
           wells = good .wells;
         }
 

@@ -1,13 +1,12 @@
 -- Books of one unit, and the balances that they open. Assumes nothing.
-use Prim.Native.Nat.{ℕ, _+_, _*_}
+use Prim.Native.Nat.{ℕ}
 use mathlib.Core.Path.{_≡_, refl}
 use mathlib.Core.List.{List, [], _∷_, _++_}
-use lib.ListN.{length, replicate}
+use lib.ListN.{replicate}
 use lib.IntN.{ℤ, pos, negsuc}
 use Rattle.laws.specs.Sum.{sumOf}
 use Rattle.laws.specs.Gather.{gather, gatherTo}
 use Rattle.laws.specs.Table.{table, tabulate}
-use Rattle.model.specs.declared.Balance.{Balance}
 use Rattle.model.specs.declared.Answer.the-variants.{Accepted}
 use Rattle.model.specs.Fresh.{emptyUnit, emptyAquifer, emptyPlace}
 use Rattle.model.specs.Answers.{firstFrom}

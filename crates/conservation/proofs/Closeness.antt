@@ -1,15 +1,14 @@
 -- The flows that are worked from rounded natural runoff lie close to those that are worked from the exact means. Assumes nothing.
-use Prim.Native.Nat.{ℕ, zero, suc, _+_, _-_, _*_, _/_, _%_, _≤_, _<_}
+use Prim.Native.Nat.{ℕ, suc, _+_, _-_, _*_, _/_, _≤_, _<_}
 use mathlib.Core.Path.{_≡_, refl, sym, ap, subst, _∙_}
 use mathlib.Core.Bool.{Bool, true, false}
 use lib.Dec.{eqb}
 use borrow.Author.Tests.{eqb-true}
-use lib.IntN.{ℤ, pos, negsuc, negℤ, _+ℤ_, _-ℤ_}
+use lib.IntN.{ℤ, pos, negsuc, _+ℤ_, _-ℤ_}
 use native.Mathlib.Nat.{mul-zero, mul-comm, mul-assoc, mul-right-comm, mul-add, add-mul, mul-le-mul-right}
 use native.Mathlib.Omega.{arith}
 use Rattle.laws.specs.Sum.{naturals, integers, sumOf, only, every}
 use Rattle.laws.specs.Signed.{above, below}
-use Rattle.laws.specs.Gather.{gather}
 use Rattle.laws.proofs.Every.{every-each}
 use Rattle.laws.proofs.Parts.{by-sign, parts-equal, plus-parts, negate-parts, minus-parts, Less, less-pos, less-self, less-plus, less-minus}
 use Rattle.laws.proofs.Gathering.{related-gather}

@@ -6,8 +6,9 @@ use lib.ListN.{length, length-append}
 use native.Mathlib.Omega.{arith}
 use Rattle.runoff.specs.Record.{Plot, Year, areaOf, weightedOf, yearGives, yearsSum}
 use Rattle.runoff.proofs.Record.{areaOf-more, weightedOf-more, yearsSum-more}
-use Rattle.record.specs.Record.{unitRecord, withSoil, withYear, closedUnit, noSums}
-use Rattle.record.specs.Described.{DescribedUnit, unitAt, withRecords, addPlot, addYear, noUnit, summed, unitOf}
+use Rattle.record.specs.Record.{unitRecord, withSoil, withYear, rainOf, gaugeOf, noSums}
+use Rattle.record.specs.Described.{DescribedUnit, unitAt, plotAt, rainAt, gaugeAt, withRecords, addPlot, addYear, noUnit, summed}
+use Rattle.record.specs.Bytes.{bits8, bits16, bits32}
 use Rattle.record.proofs.Clean.{Fine}
 
 one-more : {A : Type 0} (xs : List A) (x : A) → length (xs ++ (x ∷ [])) ≡ length xs + 1
@@ -27,7 +28,7 @@ pub summed-unit : (s : List ℕ) (i : ℕ) → summed (unitAt s i) ≡ unitRecor
 unfolding areaOf weightedOf yearsSum
 summed-unit s i = refl
 
-pub summed-plot : (u : DescribedUnit) (p : Plot) → length (u .years) ≡ 0
+summed-plot : (u : DescribedUnit) (p : Plot) → length (u .years) ≡ 0
     → summed (addPlot u p) ≡ withSoil (summed u) (p .cover) (p .soil) (p .hectares)
 summed-plot u p e = λ i.
     record {
@@ -47,7 +48,7 @@ summed-plot u p e = λ i.
       sum = no-years (areaOf (u .plots ++ (p ∷ []))) (weightedOf (u .plots ++ (p ∷ []))) (areaOf (u .plots)) (weightedOf (u .plots)) (u .years) e i;
     }
 
-pub summed-year : (u : DescribedUnit) (y : Year)
+summed-year : (u : DescribedUnit) (y : Year)
     → summed (addYear u y) ≡ withYear (summed u) (yearGives (areaOf (u .plots)) (weightedOf (u .plots)) y)
 summed-year u y = λ i.
     record {
@@ -67,9 +68,16 @@ summed-year u y = λ i.
       sum = yearsSum-more (areaOf (u .plots)) (weightedOf (u .plots)) (u .years) y i;
     }
 
--- The unit of the balance is the one that the sums give.
-pub summed-closed : (u : DescribedUnit) → closedUnit (summed u) ≡ unitOf u
-summed-closed u = refl
+-- The same of the SU, the PR and the AF at an offset.
+pub summed-soil : (s : List ℕ) (i : ℕ) (u : DescribedUnit) → length (u .years) ≡ 0
+    → summed (addPlot u (plotAt s i)) ≡ withSoil (summed u) (bits8 s (i + 2)) (bits8 s (i + 3)) (bits32 s (i + 4))
+summed-soil s i u e = summed-plot u (plotAt s i) e
+
+pub summed-rain : (s : List ℕ) (i : ℕ) (u : DescribedUnit) → summed (addYear u (rainAt s i)) ≡ withYear (summed u) (rainOf (summed u) (bits16 s (i + 2)))
+summed-rain s i u = summed-year u (rainAt s i)
+
+pub summed-gauge : (s : List ℕ) (i : ℕ) (u : DescribedUnit) → summed (addYear u (gaugeAt s i)) ≡ withYear (summed u) (gaugeOf s i)
+summed-gauge s i u = summed-year u (gaugeAt s i)
 
 -- The fields of a unit's UN stay inside their values, whatever records follow.
 pub keep-records : (u : DescribedUnit) (plots : List Plot) (years : List Year) (k : ℕ) → Fine k (summed u) → Fine k (summed (withRecords u plots years))

@@ -53,9 +53,9 @@ unitRecord s i =
       sum = pos 0;
     }
 
--- The sums with one soil record more.
-abbrev pub withSoil : UnitRecord → ℕ → ℕ → ℕ → UnitRecord
-withSoil u cover soil hectares =
+-- The same unit with other sums.
+abbrev pub withSums : UnitRecord → ℕ → ℕ → ℕ → ℕ → ℤ → UnitRecord
+withSums u soils hectares weighted years sum =
     record {
       at = u .at;
       downstream = u .downstream;
@@ -66,32 +66,20 @@ withSoil u cover soil hectares =
       evaporation = u .evaporation;
       storage = u .storage;
       commitment = u .commitment;
-      soils = u .soils + 1;
-      hectares = u .hectares + hectares;
-      weighted = u .weighted + weighted cover soil hectares;
-      years = u .years;
-      sum = u .sum;
+      soils = soils;
+      hectares = hectares;
+      weighted = weighted;
+      years = years;
+      sum = sum;
     }
 
--- The sums with one year more, of so much water.
+-- The sums with one soil record more, and with one year more, of so much water.
+abbrev pub withSoil : UnitRecord → ℕ → ℕ → ℕ → UnitRecord
+withSoil u cover soil hectares =
+    withSums u (u .soils + 1) (u .hectares + hectares) (u .weighted + weighted cover soil hectares) (u .years) (u .sum)
+
 abbrev pub withYear : UnitRecord → ℤ → UnitRecord
-withYear u year =
-    record {
-      at = u .at;
-      downstream = u .downstream;
-      extraction = u .extraction;
-      exports = u .exports;
-      imports = u .imports;
-      returns = u .returns;
-      evaporation = u .evaporation;
-      storage = u .storage;
-      commitment = u .commitment;
-      soils = u .soils;
-      hectares = u .hectares;
-      weighted = u .weighted;
-      years = u .years + 1;
-      sum = u .sum +ℤ year;
-    }
+withYear u year = withSums u (u .soils) (u .hectares) (u .weighted) (u .years + 1) (u .sum +ℤ year)
 
 -- What a rain year gives on the unit's hectares and weighted hectares.
 abbrev pub rainOf : UnitRecord → ℕ → ℤ

@@ -1,10 +1,10 @@
 -- A gauged year as its gains less its losses, and its bounds. Assumes nothing.
-use Prim.Native.Nat.{ℕ, _+_, _≤_}
+use Prim.Native.Nat.{ℕ, _+_}
 use lib.IntN.{ℤ}
 use native.Mathlib.Omega.{arith}
 use Rattle.laws.specs.Signed.{above, below}
 use Rattle.runoff.specs.Year.{gaugedYear}
-use Rattle.laws.proofs.Parts.{Less, less-pos, less-self, less-plus, less-minus, less-above, less-below}
+use Rattle.laws.proofs.Parts.{Less, less-pos, less-self, less-plus, less-minus}
 
 module _ (outflow inflow extraction exports imports returns evaporation : ℕ) (storage : ℤ) where
   pub gauged-parts :
@@ -17,13 +17,3 @@ module _ (outflow inflow extraction exports imports returns evaporation : ℕ) (
       (less-pos extraction)) (less-pos exports)) (less-pos imports)) (less-pos returns)) (less-pos evaporation)) (less-self storage)
       in
       record { parts = omega (arith, long) }
-
-  pub gauged-above :
-      above (gaugedYear outflow inflow extraction exports imports returns evaporation storage)
-      ≤ outflow + extraction + exports + evaporation + above storage
-  gauged-above = less-above gauged-parts
-
-  pub gauged-below :
-      below (gaugedYear outflow inflow extraction exports imports returns evaporation storage)
-      ≤ inflow + imports + returns + below storage
-  gauged-below = less-below gauged-parts
