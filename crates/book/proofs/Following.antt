@@ -13,41 +13,20 @@ use Rattle.model.specs.declared.Aquifer.{Aquifer}
 use Rattle.model.specs.declared.Balance.{Balance}
 use Rattle.model.specs.Fresh.{emptyUnit, emptyAquifer, emptyPlace, freshBalance}
 use Rattle.record.specs.declared.UnitRecord.{UnitRecord}
+use Rattle.record.specs.Record.{closedUnit, noSums}
+use Rattle.record.specs.Described.{noUnit, summed, unitOf}
+use Rattle.record.specs.Entries.{unitEntry, aquiferEntry}
+use Rattle.record.specs.Fault.{closingFault}
+use Rattle.record.proofs.Summing.{summed-none}
 use Rattle.book.specs.declared.Next.{Next}
 use Rattle.book.specs.declared.Next.the-variants.{Ends, Refused, Opens, Grows, Adds}
-use Rattle.record.specs.Record.{closedUnit, noSums}
-use Rattle.record.specs.Described.{unitAt, noUnit, summed, unitOf}
-use Rattle.record.proofs.Summing.{summed-none}
-use Rattle.book.specs.Reading.{Description, lastUnit, lastSums, grownAt, withUnit, withLast, withAquifer, refused, ended, next, readingFrom, reading, openedAs, opened}
+use Rattle.book.specs.Reading.{Description, lastSums, withUnit, withLast, withAquifer, readingFrom, reading, openedAs, opened}
+use Rattle.book.specs.Steps.{next}
 use Rattle.book.specs.Opening.{putUnit, putAquifer, stored, draft, refusedWith, endedWith, EndReady}
-use Rattle.book.proofs.Facts.{Facts, OpensFacts, next-facts}
-use Rattle.book.proofs.Growing.{Good, good-start, good-unit, good-last, good-aquifer, draft-unit, draft-last, draft-aquifer, snoc-length, snoc-last}
+use Rattle.book.proofs.Entries.{standing, reads-end, reads-clear}
+use Rattle.book.proofs.Growing.{Good, good-start, good-entry, clear-unit, clear-aquifer, draft-unit, draft-last, draft-aquifer, snoc-length, snoc-last}
+use Rattle.book.proofs.Telling.{Told, next-told}
 use Rattle.book.proofs.Finishing.{ended-is, end-ready}
-
--- One record more of the definition of reading, by what it does.
-module _ (f : ℕ) (s : List ℕ) (at : ℕ) (d : Description) where
-  pub from-ends : next s at (lastSums d) (length (d .units)) (length (d .aquifers)) ≡ Ends → readingFrom (suc f) s at d ≡ ended d at
-  unfolding readingFrom
-  from-ends e = rw (e, readingFrom)
-
-  pub from-refused : (n p : ℕ) → next s at (lastSums d) (length (d .units)) (length (d .aquifers)) ≡ Refused n p → readingFrom (suc f) s at d ≡ refused n p
-  unfolding readingFrom
-  from-refused n p e = rw (e, readingFrom)
-
-  pub from-opens : (u : UnitRecord) (to : ℕ) → next s at (lastSums d) (length (d .units)) (length (d .aquifers)) ≡ Opens u to
-      → readingFrom (suc f) s at d ≡ readingFrom f s to (withUnit d (unitAt s at))
-  unfolding readingFrom
-  from-opens u to e = rw (e, readingFrom)
-
-  pub from-grows : (u : UnitRecord) (to : ℕ) → next s at (lastSums d) (length (d .units)) (length (d .aquifers)) ≡ Grows u to
-      → readingFrom (suc f) s at d ≡ readingFrom f s to (withLast d (grownAt s at d))
-  unfolding readingFrom
-  from-grows u to e = rw (e, readingFrom)
-
-  pub from-adds : (a : Aquifer) (to : ℕ) → next s at (lastSums d) (length (d .units)) (length (d .aquifers)) ≡ Adds a to
-      → readingFrom (suc f) s at d ≡ readingFrom f s to (withAquifer d a)
-  unfolding readingFrom
-  from-adds a to e = rw (e, readingFrom)
 
 -- The loop has reached an offset with some records left to allow: a description was read so far, the loop's values are those of that
 -- description, and reading it from here gives what reading the book gives.
@@ -87,11 +66,8 @@ module _ (s : List ℕ) (b : Balance) (unit : UnitRecord) (units aquifers at lef
   found : (x : Next) → next s at unit units aquifers ≡ x → next s at (lastSums (r .description)) (length (r .description .units)) (length (r .description .aquifers)) ≡ x
   found x e = sym (λ i. next s at (r .last i) (r .count i) (r .wells i)) ∙ e
 
-  facts : (x : Next) → next s at unit units aquifers ≡ x
-      → Facts s at (lastUnit (r .description)) (length (r .description .units)) (length (r .description .aquifers)) x
-  facts x e =
-      subst (Facts s at (lastUnit (r .description)) (length (r .description .units)) (length (r .description .aquifers))) (found x e)
-      (next-facts s at (lastUnit (r .description)) (length (r .description .units)) (length (r .description .aquifers)) (r .within) (r .good .sane))
+  told : (x : Next) → next s at unit units aquifers ≡ x → Told s at (r .description) x
+  told x e = subst (Told s at (r .description)) (found x e) (next-told s at (r .description))
 
   allowed : readingFrom (suc (left - 1)) s at (r .description) ≡ reading s
   allowed = (λ i. readingFrom (one i) s at (r .description)) ∙ r .same
@@ -103,30 +79,31 @@ module _ (s : List ℕ) (b : Balance) (unit : UnitRecord) (units aquifers at lef
   reached-ends e =
       (λ i. endedWith (r .held i) (r .last i) (r .count i) (r .wells i) at)
       ∙ ended-is (r .description) at (r .good)
-      ∙ ap openedAs (sym (from-ends (left - 1) s at (r .description) (found Ends e)) ∙ allowed)
+      ∙ ap openedAs (sym (reads-end (left - 1) s at (r .description) (told Ends e)) ∙ allowed)
 
   pub reached-refused : (n p : ℕ) → next s at unit units aquifers ≡ Refused n p → refusedWith n p ≡ opened s
-  reached-refused n p e = ap openedAs (sym (from-refused (left - 1) s at (r .description) n p (found (Refused n p) e)) ∙ allowed)
+  reached-refused n p e = ap openedAs (sym (told (Refused n p) e (left - 1)) ∙ allowed)
 
-  pub opens-facts : (v : UnitRecord) (to : ℕ) → next s at unit units aquifers ≡ Opens v to
-      → OpensFacts s at (lastUnit (r .description)) (length (r .description .units)) (length (r .description .aquifers)) v to
-  opens-facts v to e = facts (Opens v to) e
+  pub opens-closing : (v : UnitRecord) (to : ℕ) → next s at unit units aquifers ≡ Opens v to
+      → closingFault (length (r .description .units)) (lastSums (r .description)) ≡ 0
+  opens-closing v to e = let t = told (Opens v to) e in clear-unit (r .description) (r .good) (t .unit) at (t .passed) .0
 
   pub reached-opens : (v : UnitRecord) (to : ℕ) → next s at unit units aquifers ≡ Opens v to
       → Reached s (stored b unit units) v (units + 1) aquifers to (left - 1)
   reached-opens v to e =
       let x = r .description in
-      let w = unitAt s at in
-      let f = facts (Opens v to) e in
+      let t = told (Opens v to) e in
+      let w = t .unit in
+      let stand = standing s at (unitEntry w) to (t .found) in
       record {
         description = withUnit x w;
-        good = good-unit x (r .good) s at v to f;
+        good = good-entry x (r .good) (unitEntry w) at (t .passed) (stand .begun);
         count = omega (arith, r .count, snoc-length (x .units) w noUnit);
         wells = r .wells;
-        last = f .told ∙ ap summed (sym (snoc-last (x .units) w noUnit (length (x .units ++ (w ∷ [])) - 1) (omega (arith, snoc-length (x .units) w noUnit))));
-        held = (λ i. stored (r .held i) (r .last i) (r .count i)) ∙ sym (draft-unit x (r .good) w (f .clean .room));
-        within = f .within;
-        same = sym (from-opens (left - 1) s at x v to (found (Opens v to) e)) ∙ allowed;
+        last = t .sums ∙ ap summed (sym (snoc-last (x .units) w noUnit (length (x .units ++ (w ∷ [])) - 1) (omega (arith, snoc-length (x .units) w noUnit))));
+        held = (λ i. stored (r .held i) (r .last i) (r .count i)) ∙ sym (draft-unit x (r .good) w (clear-unit x (r .good) w at (t .passed) .1 .room));
+        within = stand .within;
+        same = sym (reads-clear (left - 1) s at x (unitEntry w) to (t .found) (t .passed)) ∙ allowed;
       }
 
   -- The first unit: there is none before it to be put in.
@@ -146,38 +123,40 @@ module _ (s : List ℕ) (b : Balance) (unit : UnitRecord) (units aquifers at lef
   pub reached-grows : (v : UnitRecord) (to : ℕ) → next s at unit units aquifers ≡ Grows v to → Reached s b v units aquifers to (left - 1)
   reached-grows v to e =
       let x = r .description in
-      let w = grownAt s at x in
-      let f = facts (Grows v to) e in
-      let some : length (x .units) - 1 < length (x .units) = omega (arith, f .after) in
+      let t = told (Grows v to) e in
+      let w = t .unit in
+      let stand = standing s at (t .entry) to (t .found) in
+      let some : length (x .units) - 1 < length (x .units) = omega (arith, t .after) in
       record {
         description = withLast x w;
-        good = good-last x (r .good) s at v to f;
+        good = subst Good (t .kept) (good-entry x (r .good) (t .entry) at (t .passed) (stand .begun));
         count = r .count ∙ sym (length-set (x .units) (length (x .units) - 1) w);
         wells = r .wells;
-        last = f .told ∙ ap summed (sym ((λ i. getD (set (x .units) (length (x .units) - 1) w) (length-set (x .units) (length (x .units) - 1) w i - 1) noUnit)
+        last = t .sums ∙ ap summed (sym ((λ i. getD (set (x .units) (length (x .units) - 1) w) (length-set (x .units) (length (x .units) - 1) w i - 1) noUnit)
             ∙ getD-set-same (x .units) (length (x .units) - 1) w noUnit some));
         held = r .held ∙ sym (draft-last x (r .good) w);
-        within = f .within;
-        same = sym (from-grows (left - 1) s at x v to (found (Grows v to) e)) ∙ allowed;
+        within = stand .within;
+        same = ap (readingFrom (left - 1) s to) (sym (t .kept)) ∙ sym (reads-clear (left - 1) s at x (t .entry) to (t .found) (t .passed)) ∙ allowed;
       }
 
   pub adds-room : (a : Aquifer) (to : ℕ) → next s at unit units aquifers ≡ Adds a to → aquifers < 32
-  adds-room a to e = omega (arith, r .wells, facts (Adds a to) e .clean .room)
+  adds-room a to e = omega (arith, r .wells, clear-aquifer (r .description) (r .good) a at (told (Adds a to) e .passed) .1 .room)
 
   pub reached-adds : (a : Aquifer) (to : ℕ) → next s at unit units aquifers ≡ Adds a to
       → Reached s (putAquifer b aquifers a) unit units (aquifers + 1) to (left - 1)
   reached-adds a to e =
       let x = r .description in
-      let f = facts (Adds a to) e in
+      let t = told (Adds a to) e in
+      let stand = standing s at (aquiferEntry a) to (t .found) in
       record {
         description = withAquifer x a;
-        good = good-aquifer x (r .good) s at a to f;
+        good = good-entry x (r .good) (aquiferEntry a) at (t .passed) (stand .begun);
         count = r .count;
         wells = omega (arith, r .wells, snoc-length (x .aquifers) a emptyAquifer);
         last = r .last;
-        held = (λ i. putAquifer (r .held i) (r .wells i) a) ∙ sym (draft-aquifer x (r .good) a (f .clean .room));
-        within = f .within;
-        same = sym (from-adds (left - 1) s at x a to (found (Adds a to) e)) ∙ allowed;
+        held = (λ i. putAquifer (r .held i) (r .wells i) a) ∙ sym (draft-aquifer x (r .good) a (clear-aquifer x (r .good) a at (t .passed) .1 .room));
+        within = stand .within;
+        same = sym (reads-clear (left - 1) s at x (aquiferEntry a) to (t .found) (t .passed)) ∙ allowed;
       }
 
 -- With no records left to allow, reading gives 1.

@@ -1,5 +1,5 @@
 -- A description grows record by record, and the balance under construction with it. Assumes nothing.
-use Prim.Native.Nat.{ℕ, suc, _+_, _-_, _≤_, _<_}
+use Prim.Native.Nat.{ℕ, suc, _-_, _≤_, _<_}
 use mathlib.Core.Path.{_≡_, refl, sym, ap, subst⁻¹, _∙_}
 use mathlib.Core.List.{List, [], _∷_, _++_}
 use lib.ListN.{length, getD, set, length-set, length-append, List·getD-append}
@@ -9,21 +9,23 @@ use borrow.Author.Tests.{eq-eqb, ne-eqb}
 use Rattle.laws.specs.Table.{table}
 use Rattle.laws.proofs.Cases.{by-eq, by-lt}
 use Rattle.laws.proofs.Arrays.{table-same, table-more}
-use Rattle.model.specs.declared.Unit.{Unit}
+use Rattle.model.specs.declared.Unit.{Unit as BasinUnit}
 use Rattle.model.specs.declared.Aquifer.{Aquifer}
 use Rattle.model.specs.declared.Balance.{Balance}
 use Rattle.model.specs.Fresh.{emptyUnit, emptyAquifer}
-use Rattle.record.specs.declared.UnitRecord.{UnitRecord}
-use Rattle.record.specs.Bytes.{bits8}
-use Rattle.record.specs.Record.{markOf}
-use Rattle.record.specs.Described.{DescribedUnit, unitAt, noUnit, summed, unitOf}
-use Rattle.record.specs.Fault.{Sane, Closed, closingFault}
-use Rattle.book.specs.Reading.{Description, lastUnit, lastSums, grownAt, withUnit, withLast, withAquifer, balanceOf}
+use Rattle.runoff.specs.Year.{RainRange}
+use Rattle.runoff.specs.Record.{Plot, Gauged, ofRain, ofGauge}
+use Rattle.runoff.proofs.Rain.{rain-within}
+use Rattle.record.specs.Described.{DescribedUnit, addPlot, addYear, noUnit, summed, unitOf}
+use Rattle.record.specs.Entries.{Entry, unitEntry, soilEntry, yearEntry, aquiferEntry}
+use Rattle.record.specs.Fault.{Sane, Closed, closingFault, gaugedOutside}
+use Rattle.book.specs.Reading.{Description, lastUnit, lastSums, withUnit, withLast, withAquifer, withEntry, clear, entryVerdict, balanceOf}
 use Rattle.book.specs.Opening.{putAquifer, counted, stored, fullOf, draft}
-use Rattle.record.proofs.Clean.{Fine, WellFine, closing-clean}
-use Rattle.record.proofs.Means.{Kind, bare-kind}
-use Rattle.record.proofs.Summing.{summed-none}
-use Rattle.book.proofs.Facts.{OpensFacts, GrowsFacts, AddsFacts}
+use Rattle.record.proofs.Faults.{SoilClean, soil-clean, RainClean, rain-clean, GaugeClean, gauge-clean, gauged-range}
+use Rattle.record.proofs.Clean.{Fine, WellFine, UnitClean, unit-clean, AquiferClean, aquifer-clean, closing-clean, year-sane, soil-sane}
+use Rattle.record.proofs.Means.{Kind, bare-kind, plot-kind, rain-kind, gauge-kind}
+use Rattle.record.proofs.Summing.{summed-plot, summed-year, begun-sane, keep-records}
+use Rattle.book.proofs.Entries.{Begun, Cleared, cleared}
 
 -- One element more at the end of a list.
 module _ {A : Type 0} (xs : List A) (x d : A) where
@@ -53,9 +55,7 @@ good-start =
       many = omega arith;
       fine = λ k h. absurd (omega arith);
       closed = λ k h. absurd (omega arith);
-      sane =
-          subst⁻¹ Sane summed-none
-          (record { few = omega arith; area = omega arith; weight = omega arith; short = omega arith; gains = omega arith; losses = omega arith; rain = λ n. refl });
+      sane = begun-sane noUnit refl refl;
       kinds = λ k h. absurd (omega arith);
       wells = λ k h. absurd (omega arith);
     }
@@ -70,78 +70,128 @@ module _ (d : Description) (good : Good d) where
       let q : k ≡ length (d .units) - 1 = omega arith in
       rw q (closing-clean (length (d .units)) (lastSums d) e (omega arith) (good .sane)))
 
-  module _ (s : List ℕ) (at : ℕ) where
-    pub good-unit : (w : UnitRecord) (to : ℕ) → OpensFacts s at (lastUnit d) (length (d .units)) (length (d .aquifers)) w to → Good (withUnit d (unitAt s at))
-    good-unit w to f =
-        let us = d .units in
-        let v = unitAt s at in
-        let l = snoc-length us v noUnit in
-        record {
-          few = omega (arith, l, f .clean .room);
-          many = good .many;
-          fine = λ k h.
-              by-eq k (length us)
-              (λ e. rw (snoc-last us v noUnit k e, e) (f .clean .fine))
-              (λ e. rw (snoc-before us v noUnit k (omega (arith, l))) (good .fine k (omega (arith, l))));
-          closed = λ k h. rw (snoc-before us v noUnit k (omega (arith, l))) (all-closed (f .closing) k (omega (arith, l)));
-          sane = rw (snoc-last us v noUnit (length (us ++ (v ∷ [])) - 1) (omega (arith, l))) (f .sane);
-          kinds = λ k h.
-              by-eq k (length us)
-              (λ e. rw (snoc-last us v noUnit k e) (bare-kind v refl refl))
-              (λ e. rw (snoc-before us v noUnit k (omega (arith, l))) (good .kinds k (omega (arith, l))));
-          wells = good .wells;
-        }
+  good-unit : (v : DescribedUnit) → closingFault (length (d .units)) (lastSums d) ≡ 0 → UnitClean (length (d .units)) (length (d .aquifers)) (summed v)
+      → v .plots ≡ [] → v .years ≡ [] → Good (withUnit d v)
+  good-unit v e c p y =
+      let us = d .units in
+      let l = snoc-length us v noUnit in
+      record {
+        few = omega (arith, l, c .room);
+        many = good .many;
+        fine = λ k h.
+            by-eq k (length us)
+            (λ q. rw (snoc-last us v noUnit k q, q) (c .fine))
+            (λ q. rw (snoc-before us v noUnit k (omega (arith, l))) (good .fine k (omega (arith, l))));
+        closed = λ k h. rw (snoc-before us v noUnit k (omega (arith, l))) (all-closed e k (omega (arith, l)));
+        sane = rw (snoc-last us v noUnit (length (us ++ (v ∷ [])) - 1) (omega (arith, l))) (begun-sane v p y);
+        kinds = λ k h.
+            by-eq k (length us)
+            (λ q. rw (snoc-last us v noUnit k q) (bare-kind v p y))
+            (λ q. rw (snoc-before us v noUnit k (omega (arith, l))) (good .kinds k (omega (arith, l))));
+        wells = good .wells;
+      }
 
-    pub good-last : (w : UnitRecord) (to : ℕ) → GrowsFacts s at (markOf (bits8 s at) (bits8 s (at + 1))) (lastUnit d) (length (d .units)) w to
-        → Good (withLast d (grownAt s at d))
-    good-last w to f =
-        let us = d .units in
-        let v = grownAt s at d in
-        let i = length us - 1 in
-        let l = length-set us i v in
-        let some : i < length us = omega (arith, f .after) in
-        record {
-          few = omega (arith, l, good .few);
-          many = good .many;
-          fine = λ k h.
-              by-eq k i
-              (λ e. rw (e, getD-set-same us i v noUnit some) (f .kept i (good .fine i some)))
-              (λ e. rw (getD-set-other us i k v noUnit e) (good .fine k (omega (arith, l))));
-          closed = λ k h. rw (getD-set-other us i k v noUnit (omega (arith, l))) (good .closed k (omega (arith, l)));
-          sane = rw (l, getD-set-same us i v noUnit some) (f .sane);
-          kinds = λ k h.
-              by-eq k i
-              (λ e. rw (e, getD-set-same us i v noUnit some) (f .kind (good .kinds i some)))
-              (λ e. rw (getD-set-other us i k v noUnit e) (good .kinds k (omega (arith, l))));
-          wells = good .wells;
-        }
+  good-last : (v : DescribedUnit) → (length (d .units) ≡ 0 → ⊥) → Sane (summed v) → ((k : ℕ) → Fine k (lastSums d) → Fine k (summed v))
+      → (Kind (lastUnit d) → Kind v) → Good (withLast d v)
+  good-last v n e kept kind =
+      let us = d .units in
+      let i = length us - 1 in
+      let l = length-set us i v in
+      let some : i < length us = omega (arith, n) in
+      record {
+        few = omega (arith, l, good .few);
+        many = good .many;
+        fine = λ k h.
+            by-eq k i
+            (λ q. rw (q, getD-set-same us i v noUnit some) (kept i (good .fine i some)))
+            (λ q. rw (getD-set-other us i k v noUnit q) (good .fine k (omega (arith, l))));
+        closed = λ k h. rw (getD-set-other us i k v noUnit (omega (arith, l))) (good .closed k (omega (arith, l)));
+        sane = rw (l, getD-set-same us i v noUnit some) e;
+        kinds = λ k h.
+            by-eq k i
+            (λ q. rw (q, getD-set-same us i v noUnit some) (kind (good .kinds i some)))
+            (λ q. rw (getD-set-other us i k v noUnit q) (good .kinds k (omega (arith, l))));
+        wells = good .wells;
+      }
 
-    pub good-aquifer : (a : Aquifer) (to : ℕ) → AddsFacts s (lastUnit d) (length (d .units)) (length (d .aquifers)) a to → Good (withAquifer d a)
-    good-aquifer a to f =
-        let ws = d .aquifers in
-        let l = snoc-length ws a emptyAquifer in
-        record {
-          few = good .few;
-          many = omega (arith, l, f .clean .room);
-          fine = good .fine;
-          closed = good .closed;
-          sane = good .sane;
-          kinds = good .kinds;
-          wells = λ k h.
-              by-eq k (length ws)
-              (λ e. rw (snoc-last ws a emptyAquifer k e) (f .clean .fine))
-              (λ e. rw (snoc-before ws a emptyAquifer k (omega (arith, l))) (good .wells k (omega (arith, l))));
-        }
+  good-aquifer : (a : Aquifer) → AquiferClean (length (d .aquifers)) a → Good (withAquifer d a)
+  good-aquifer a c =
+      let ws = d .aquifers in
+      let l = snoc-length ws a emptyAquifer in
+      record {
+        few = good .few;
+        many = omega (arith, l, c .room);
+        fine = good .fine;
+        closed = good .closed;
+        sane = good .sane;
+        kinds = good .kinds;
+        wells = λ k h.
+            by-eq k (length ws)
+            (λ q. rw (snoc-last ws a emptyAquifer k q) (c .fine))
+            (λ q. rw (snoc-before ws a emptyAquifer k (omega (arith, l))) (good .wells k (omega (arith, l))));
+      }
+
+  -- What is known of a UN, an SU, a PR, an AF and an AC that is not refused.
+  pub clear-unit : (u : DescribedUnit) (at : ℕ) → entryVerdict d (unitEntry u) at ≡ clear
+      → (closingFault (length (d .units)) (lastSums d) ≡ 0) × UnitClean (length (d .units)) (length (d .aquifers)) (summed u)
+  clear-unit u at h =
+      let c = cleared _ _ _ h in
+      (c .here, unit-clean (length (d .units)) (length (d .aquifers)) (summed u) (cleared _ _ _ (c .later) .here))
+
+  pub clear-soil : (p : Plot) (at : ℕ) → entryVerdict d (soilEntry p) at ≡ clear
+      → SoilClean (length (d .units)) (length (d .aquifers)) (lastSums d) (p .cover) (p .soil) (p .hectares)
+  clear-soil p at h = soil-clean _ _ (lastSums d) _ _ _ (cleared _ _ _ h .here)
+
+  pub clear-rain : (mm at : ℕ) → entryVerdict d (yearEntry (ofRain mm)) at ≡ clear
+      → RainClean (length (d .units)) (length (d .aquifers)) (lastSums d) mm
+  clear-rain mm at h = rain-clean _ _ (lastSums d) mm (cleared _ _ _ h .here)
+
+  pub clear-gauge : (y : Gauged) (at : ℕ) → entryVerdict d (yearEntry (ofGauge y)) at ≡ clear
+      → GaugeClean (length (d .units)) (length (d .aquifers)) (lastSums d) (gaugedOutside y)
+  clear-gauge y at h = gauge-clean _ _ (lastSums d) (gaugedOutside y) (cleared _ _ _ h .here)
+
+  pub clear-aquifer : (a : Aquifer) (at : ℕ) → entryVerdict d (aquiferEntry a) at ≡ clear
+      → (closingFault (length (d .units)) (lastSums d) ≡ 0) × AquiferClean (length (d .aquifers)) a
+  clear-aquifer a at h =
+      let c = cleared _ _ _ h in
+      (c .here, aquifer-clean (length (d .aquifers)) a (cleared _ _ _ (c .later) .here))
+
+  -- A record that is not refused keeps all that.
+  pub good-entry : (e : Entry) (at : ℕ) → entryVerdict d e at ≡ clear → Begun e → Good (withEntry d e)
+  good-entry (unitEntry u) at h b = let c = clear-unit u at h in good-unit u (c .0) (c .1) (b .0) (b .1)
+  good-entry (soilEntry p) at h b =
+      let x = lastUnit d in
+      let c = clear-soil p at h in
+      good-last (addPlot x p) (c .after)
+      (subst⁻¹ Sane (summed-plot x p (c .fresh)) (soil-sane (summed x) _ _ _ (good .sane) (c .fresh) (c .room) (c .known) (c .area)))
+      (keep-records x _ _) (λ k. plot-kind x p (c .fresh))
+  good-entry (yearEntry (ofRain mm)) at h b =
+      let x = lastUnit d in
+      let c = clear-rain mm at h in
+      let range : RainRange (summed x .hectares) (summed x .weighted) mm = record { areaTo = good .sane .area; weightedTo = good .sane .weight; rainTo = c .most } in
+      good-last (addYear x (ofRain mm)) (c .after)
+      (subst⁻¹ Sane (summed-year x (ofRain mm))
+      (year-sane (summed x) _ (good .sane) (c .room)
+      (record { gain = omega (arith, rain-within (summed x .hectares) (summed x .weighted) mm range); loss = omega arith }) (λ n. refl)))
+      (keep-records x _ _) (rain-kind x mm (c .soiled))
+  good-entry (yearEntry (ofGauge y)) at h b =
+      let x = lastUnit d in
+      let c = clear-gauge y at h in
+      good-last (addYear x (ofGauge y)) (c .after)
+      (subst⁻¹ Sane (summed-year x (ofGauge y))
+      (year-sane (summed x) _ (good .sane) (c .room) (gauged-range y (c .inside)) (λ n. absurd (n (c .bare)))))
+      (keep-records x _ _) (gauge-kind x y (c .bare))
+  good-entry (aquiferEntry a) at h b = good-aquifer a (clear-aquifer a at h .1)
 
 -- The units and aquifers that a description gives, by their index.
-abbrev unitIn : Description → ℕ → Unit
+abbrev unitIn : Description → ℕ → BasinUnit
 unitIn d k = unitOf (getD (d .units) k noUnit)
 
 abbrev wellIn : Description → ℕ → Aquifer
 wellIn d k = getD (d .aquifers) k emptyAquifer
 
 -- A balance with other units, with other aquifers.
-abbrev withUnits : Balance → List Unit → Balance
+abbrev withUnits : Balance → List BasinUnit → Balance
 withUnits b us =
     record {
       units = us;

@@ -1,6 +1,7 @@
 pub mod Steps
-pub mod Facts
+pub mod Entries
 pub mod Growing
+pub mod Telling
 pub mod Ending
 pub mod Finishing
 pub mod Following

@@ -30,81 +30,15 @@ use Rattle.runoff.specs.Record.{gaugedOn, sumOn}
 use Rattle.runoff.proofs.Rounding.{natural-within}
 use Rattle.basin.specs.Sound.{sound}
 use Rattle.basin.proofs.Soundness.{UnitSound, AquiferSound, sound-of, fresh-sound}
-use Rattle.record.specs.declared.UnitRecord.{UnitRecord}
-use Rattle.record.specs.declared.Mark.{Mark}
-use Rattle.record.specs.declared.Mark.the-variants.{Un, Su, Pr, Af, Ac, Call, Unknown}
-use Rattle.book.specs.declared.Opened.{Opened}
-use Rattle.book.specs.declared.Next.{Next}
-use Rattle.book.specs.declared.Next.the-variants.{Ends, Refused, Opens, Grows, Adds}
-use Rattle.record.specs.Bytes.{bits8, bits16, bits32}
-use Rattle.record.specs.Record.{markOf, unitRecord, aquiferRecord}
 use Rattle.record.specs.Described.{DescribedUnit, noUnit, summed, unitOf}
-use Rattle.record.specs.Fault.{Closed, closingFault, unitFault, soilFault, rainFault, gaugeFault, aquiferFault, gaugeOutsideAt}
-use Rattle.book.specs.Reading.{Description, lastUnit, lastSums, balanceOf, marked, next, Outcome, read, refused, faultAt, ended, readingFrom, reading, openedAs, opened}
+use Rattle.record.specs.Fault.{Closed, closingFault}
+use Rattle.book.specs.declared.Opened.{Opened}
+use Rattle.book.specs.Reading.{Description, lastUnit, lastSums, balanceOf, Outcome, read, refused, faultAt, ended, withEntry, readingFrom, reading, openedAs, opened}
 use Rattle.record.proofs.Clean.{Fine, WellFine}
 use Rattle.record.proofs.Means.{MeanOfYears, mean-of-years}
-use Rattle.book.proofs.Facts.{Facts, next-facts, through-unless, through-whole}
-use Rattle.book.proofs.Growing.{Good, good-start, good-unit, good-last, good-aquifer, all-closed}
+use Rattle.book.proofs.Entries.{standing, by-record, reads-end, reads-failing, reads-faulty, reads-clear}
+use Rattle.book.proofs.Growing.{Good, good-start, good-entry, all-closed}
 use Rattle.book.proofs.Finishing.{unit-at, well-at}
-use Rattle.book.proofs.Following.{from-ends, from-refused, from-opens, from-grows, from-adds}
-
--- A record that goes on leaves its own offset behind and stays within the book.
-abbrev Onward : List ℕ → ℕ → Next → Type 0
-Onward s at Ends = Unit {0}
-Onward s at (Refused n p) = Unit {0}
-Onward s at (Opens u to) = (at < to) × (to ≤ length s)
-Onward s at (Grows u to) = (at < to) × (to ≤ length s)
-Onward s at (Adds a to) = (at < to) × (to ≤ length s)
-
-module _ (s : List ℕ) (at : ℕ) (u : UnitRecord) (units aquifers : ℕ) where
-  none : (n p : ℕ) → Onward s at (Refused n p)
-  none n p = tt
-
-  mark-onward : (m : Mark) → Onward s at (marked m s at u units aquifers)
-  mark-onward Un =
-      through-whole (Onward s at) none s at 31 _
-      (λ h. through-unless (Onward s at) none (closingFault units u) (u .at) _
-      (λ e. through-unless (Onward s at) none (unitFault units aquifers (unitRecord s at)) at _ (λ g. (omega arith, omega arith))))
-  mark-onward Su =
-      through-whole (Onward s at) none s at 8 _
-      (λ h. through-unless (Onward s at) none (soilFault units aquifers u (bits8 s (at + 2)) (bits8 s (at + 3)) (bits32 s (at + 4))) at _
-      (λ e. (omega arith, omega arith)))
-  mark-onward Pr =
-      through-whole (Onward s at) none s at 4 _
-      (λ h. through-unless (Onward s at) none (rainFault units aquifers u (bits16 s (at + 2))) at _ (λ e. (omega arith, omega arith)))
-  mark-onward Af =
-      through-whole (Onward s at) none s at 34 _
-      (λ h. through-unless (Onward s at) none (gaugeFault units aquifers u (gaugeOutsideAt s at)) at _ (λ e. (omega arith, omega arith)))
-  mark-onward Ac =
-      through-whole (Onward s at) none s at 22 _
-      (λ h. through-unless (Onward s at) none (closingFault units u) (u .at) _
-      (λ e. through-unless (Onward s at) none (aquiferFault aquifers (aquiferRecord s at)) at _ (λ g. (omega arith, omega arith))))
-  mark-onward Call = tt
-  mark-onward Unknown = tt
-
-  next-onward : Onward s at (next s at u units aquifers)
-  unfolding next
-  next-onward =
-      by-eq (length s - at) 0
-      (λ e. rw (eq-eqb (length s - at) 0 e) tt)
-      (λ e. rw (ne-eqb (length s - at) 0 e)
-      (by-eq (length s - at) 1
-      (λ g. rw (eq-eqb (length s - at) 1 g) tt)
-      (λ g. rw (ne-eqb (length s - at) 1 g) (mark-onward (markOf (bits8 s at) (bits8 s (at + 1)))))))
-
--- What the record at an offset does to a description.
-abbrev nextOf : List ℕ → ℕ → Description → Next
-nextOf s at d = next s at (lastSums d) (length (d .units)) (length (d .aquifers))
-
--- One record more, where the rest is the same under both allowances.
-one-more : (f g : ℕ) (s : List ℕ) (at : ℕ) (d : Description)
-    → ((to : ℕ) (x : Description) → at < to → to ≤ length s → readingFrom f s to x ≡ readingFrom g s to x)
-    → (n : Next) → nextOf s at d ≡ n → Onward s at n → readingFrom (suc f) s at d ≡ readingFrom (suc g) s at d
-one-more f g s at d rest Ends e o = from-ends f s at d e ∙ sym (from-ends g s at d e)
-one-more f g s at d rest (Refused n p) e o = from-refused f s at d n p e ∙ sym (from-refused g s at d n p e)
-one-more f g s at d rest (Opens u to) e o = from-opens f s at d u to e ∙ rest to _ (o .0) (o .1) ∙ sym (from-opens g s at d u to e)
-one-more f g s at d rest (Grows u to) e o = from-grows f s at d u to e ∙ rest to _ (o .0) (o .1) ∙ sym (from-grows g s at d u to e)
-one-more f g s at d rest (Adds a to) e o = from-adds f s at d a to e ∙ rest to _ (o .0) (o .1) ∙ sym (from-adds g s at d a to e)
 
 -- Two allowances above the number of bytes that are left give the same.
 same-reading : (f g : ℕ) (s : List ℕ) (at : ℕ) (d : Description) → length s - at < f → length s - at < g
@@ -112,8 +46,14 @@ same-reading : (f g : ℕ) (s : List ℕ) (at : ℕ) (d : Description) → lengt
 same-reading zero g s at d h k = absurd (omega arith)
 same-reading (suc f) zero s at d h k = absurd (omega arith)
 same-reading (suc f) (suc g) s at d h k =
-    one-more f g s at d (λ to x a b. same-reading f g s to x (omega arith) (omega arith)) (nextOf s at d) refl
-    (next-onward s at (lastSums d) (length (d .units)) (length (d .aquifers)))
+    by-record s at d
+    (λ q. reads-end f s at d q ∙ sym (reads-end g s at d q))
+    (λ n q. reads-failing f s at d n q ∙ sym (reads-failing g s at d n q))
+    (λ e to n p q v. reads-faulty f s at d e to n p q v ∙ sym (reads-faulty g s at d e to n p q v))
+    (λ e to q v.
+    let o = standing s at e to q in
+    reads-clear f s at d e to q v ∙ same-reading f g s to (withEntry d e) (omega (arith, o .onward, o .within)) (omega (arith, o .onward, o .within))
+    ∙ sym (reads-clear g s at d e to q v))
 
 -- The allowance of records never runs out: reading with any larger allowance gives the same.
 pub enough-records : (s : List ℕ) (e : ℕ) → readingFrom (length s + 1 + e) s 0 (record { units = []; aquifers = [] }) ≡ reading s
@@ -200,24 +140,19 @@ module _ (P : Outcome → Type 0) (fails : (n p : ℕ) → P (refused n p))
         (through-fault 8 (missing d) _ (λ m. through-fault 10 (negative d) _ (λ f. reads d good e m f at))))
         (λ e. rw (ne-eqb c 0 e) (fails c (lastUnit d .at)))
 
-    one-record : (f : ℕ) (s : List ℕ) (at : ℕ) (d : Description) → Good d
-        → ((to : ℕ) (x : Description) → to ≤ length s → Good x → P (readingFrom f s to x))
-        → (n : Next) → nextOf s at d ≡ n → Facts s at (lastUnit d) (length (d .units)) (length (d .aquifers)) n → P (readingFrom (suc f) s at d)
-    one-record f s at d good rest Ends e t = subst⁻¹ P (from-ends f s at d e) (through-end d good at)
-    one-record f s at d good rest (Refused n p) e t = subst⁻¹ P (from-refused f s at d n p e) (fails n p)
-    one-record f s at d good rest (Opens u to) e t = subst⁻¹ P (from-opens f s at d u to e) (rest to _ (t .within) (good-unit d good s at u to t))
-    one-record f s at d good rest (Grows u to) e t = subst⁻¹ P (from-grows f s at d u to e) (rest to _ (t .within) (good-last d good s at u to t))
-    one-record f s at d good rest (Adds a to) e t = subst⁻¹ P (from-adds f s at d a to e) (rest to _ (t .within) (good-aquifer d good s at a to t))
-
-    all-records : (f : ℕ) (s : List ℕ) (at : ℕ) (d : Description) → at ≤ length s → Good d → P (readingFrom f s at d)
+    all-records : (f : ℕ) (s : List ℕ) (at : ℕ) (d : Description) → Good d → P (readingFrom f s at d)
     unfolding readingFrom
-    all-records zero s at d h good = fails 1 at
-    all-records (suc f) s at d h good =
-        one-record f s at d good (all-records f s) (nextOf s at d) refl
-        (next-facts s at (lastUnit d) (length (d .units)) (length (d .aquifers)) h (good .sane))
+    all-records zero s at d good = fails 1 at
+    all-records (suc f) s at d good =
+        by-record s at d
+        (λ q. subst⁻¹ P (reads-end f s at d q) (through-end d good at))
+        (λ n q. subst⁻¹ P (reads-failing f s at d n q) (fails n at))
+        (λ e to n p q v. subst⁻¹ P (reads-faulty f s at d e to n p q v) (fails n p))
+        (λ e to q v.
+        subst⁻¹ P (reads-clear f s at d e to q v) (all-records f s to (withEntry d e) (good-entry d good e at v (standing s at e to q .begun))))
 
     through-reading : (s : List ℕ) → P (reading s)
-    through-reading s = all-records (length s + 1) s 0 (record { units = []; aquifers = [] }) (omega arith) good-start
+    through-reading s = all-records (length s + 1) s 0 (record { units = []; aquifers = [] }) good-start
 
 -- Opening never hands out a balance that falls under 0.
 pub opening-sound : (s : List ℕ) → sound (viewOf (opened s .balance)) ≡ true

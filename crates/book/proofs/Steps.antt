@@ -11,7 +11,7 @@ use Rattle.record.specs.declared.Mark.{Mark}
 use Rattle.record.specs.declared.UnitRecord.{UnitRecord}
 use Rattle.record.specs.Bytes.{bits8}
 use Rattle.record.specs.Record.{markOf}
-use Rattle.book.specs.Reading.{whole, unless, marked, next}
+use Rattle.book.specs.Steps.{whole, unless, marked, next}
 
 -- Fewer bytes left than the record's.
 pub is-short : (s : List ℕ) (at size : ℕ) (go : Next) → length s - at < size → Refused 1 at ≡ whole s at size go

@@ -1,3 +1,4 @@
 -- The book: reading its description, and what opening gives.
 pub mod Reading
+pub mod Steps
 pub mod Opening

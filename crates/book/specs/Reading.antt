@@ -12,82 +12,14 @@ use Rattle.model.specs.declared.Found.{Found}
 use Rattle.model.specs.declared.Found.the-variants.{At, Nothing}
 use Rattle.model.specs.Fresh.{emptyUnit, emptyAquifer, emptyPlace, freshBalance}
 use Rattle.model.specs.View.{viewOf}
-use Rattle.model.specs.Answers.{none, number, answered, first}
 use Rattle.model.specs.Limits.{unitLimit, aquiferLimit, titleLimit}
+use Rattle.model.specs.Answers.{none, number, answered, first}
 use Rattle.river.specs.Flow.{flow}
 use Rattle.record.specs.declared.UnitRecord.{UnitRecord}
-use Rattle.record.specs.declared.Mark.{Mark}
-use Rattle.record.specs.declared.Mark.the-variants.{Un, Su, Pr, Af, Ac, Call, Unknown}
-use Rattle.book.specs.declared.Next.{Next}
-use Rattle.book.specs.declared.Next.the-variants.{Ends, Refused, Opens, Grows, Adds}
+use Rattle.record.specs.Described.{DescribedUnit, addPlot, addYear, noUnit, summed, unitOf}
+use Rattle.record.specs.Entries.{Entry, unitEntry, soilEntry, yearEntry, aquiferEntry, noEntry, failing, stands, entryAt}
+use Rattle.record.specs.Fault.{closingFault, unitFault, soilFault, yearFault, aquiferFault}
 use Rattle.book.specs.declared.Opened.{Opened}
-use Rattle.record.specs.Bytes.{bits8, bits16, bits32}
-use Rattle.record.specs.Record.{markOf, unitRecord, withSoil, withYear, rainOf, gaugeOf, aquiferRecord}
-use Rattle.record.specs.Described.{DescribedUnit, unitAt, withRecord, noUnit, summed, unitOf}
-use Rattle.record.specs.Fault.{closingFault, unitFault, soilFault, rainFault, gaugeOutsideAt, gaugeFault, aquiferFault}
-
--- What a record does, once its bytes are there: it is refused under its fault, or goes on.
-abbrev pub unless : ℕ → ℕ → Next → Next
-unless fault place go = cond (eqb fault 0) go (Refused fault place)
-
--- 1 fewer bytes left than the record's mark and body.
-abbrev pub whole : List ℕ → ℕ → ℕ → Next → Next
-whole s at size go = cond (ltb (length s - at) size) (Refused 1 at) go
-
--- UN: 31 bytes. It closes the open unit, then is refused or opens the next.
-abbrev pub unitStep : List ℕ → ℕ → UnitRecord → ℕ → ℕ → Next
-unitStep s at u units aquifers =
-    whole s at 31
-    (unless (closingFault units u) (u .at)
-    (unless (unitFault units aquifers (unitRecord s at)) at
-    (Opens (unitRecord s at) (at + 31))))
-
--- SU: 8 bytes.
-abbrev pub soilStep : List ℕ → ℕ → UnitRecord → ℕ → ℕ → Next
-soilStep s at u units aquifers =
-    whole s at 8
-    (unless (soilFault units aquifers u (bits8 s (at + 2)) (bits8 s (at + 3)) (bits32 s (at + 4))) at
-    (Grows (withSoil u (bits8 s (at + 2)) (bits8 s (at + 3)) (bits32 s (at + 4))) (at + 8)))
-
--- PR: 4 bytes.
-abbrev pub rainStep : List ℕ → ℕ → UnitRecord → ℕ → ℕ → Next
-rainStep s at u units aquifers =
-    whole s at 4
-    (unless (rainFault units aquifers u (bits16 s (at + 2))) at
-    (Grows (withYear u (rainOf u (bits16 s (at + 2)))) (at + 4)))
-
--- AF: 34 bytes.
-abbrev pub gaugeStep : List ℕ → ℕ → UnitRecord → ℕ → ℕ → Next
-gaugeStep s at u units aquifers =
-    whole s at 34
-    (unless (gaugeFault units aquifers u (gaugeOutsideAt s at)) at
-    (Grows (withYear u (gaugeOf s at)) (at + 34)))
-
--- AC: 22 bytes. It closes the open unit too.
-abbrev pub aquiferStep : List ℕ → ℕ → UnitRecord → ℕ → ℕ → Next
-aquiferStep s at u units aquifers =
-    whole s at 22
-    (unless (closingFault units u) (u .at)
-    (unless (aquiferFault aquifers (aquiferRecord s at)) at
-    (Adds (aquiferRecord s at) (at + 22))))
-
--- 2 unknown mark. A call mark ends the description even if its body is short.
-abbrev pub marked : Mark → List ℕ → ℕ → UnitRecord → ℕ → ℕ → Next
-marked Un s at u units aquifers = unitStep s at u units aquifers
-marked Su s at u units aquifers = soilStep s at u units aquifers
-marked Pr s at u units aquifers = rainStep s at u units aquifers
-marked Af s at u units aquifers = gaugeStep s at u units aquifers
-marked Ac s at u units aquifers = aquiferStep s at u units aquifers
-marked Call s at u units aquifers = Ends
-marked Unknown s at u units aquifers = Refused 2 at
-
--- What stands at an offset does to a description with so many units, the last of them open with these counts and sums, and so many
--- aquifers: nothing left ends it, and a lone last byte is 1.
-unfoldable pub next : List ℕ → ℕ → UnitRecord → ℕ → ℕ → Next
-next s at u units aquifers =
-    cond (eqb (length s - at) 0) Ends
-    (cond (eqb (length s - at) 1) (Refused 1 at)
-    (marked (markOf (bits8 s at) (bits8 s (at + 1))) s at u units aquifers))
 
 -- A description: its units, each with its records, the last one open until it is closed, and its aquifers, in file order.
 pub record Description : Type 0 where
@@ -142,20 +74,41 @@ withLast d u = record { units = set (d .units) (length (d .units) - 1) u; aquife
 abbrev pub withAquifer : Description → Aquifer → Description
 withAquifer d a = record { units = d .units; aquifers = d .aquifers ++ (a ∷ []) }
 
--- The open unit with the record at an offset in.
-abbrev pub grownAt : List ℕ → ℕ → Description → DescribedUnit
-grownAt s at d = withRecord (markOf (bits8 s at) (bits8 s (at + 1))) s at (lastUnit d)
+abbrev pub withEntry : Description → Entry → Description
+withEntry d (unitEntry u) = withUnit d u
+withEntry d (soilEntry p) = withLast d (addPlot (lastUnit d) p)
+withEntry d (yearEntry y) = withLast d (addYear (lastUnit d) y)
+withEntry d (aquiferEntry a) = withAquifer d a
 
--- Reading from an offset on, at most so many records: each record is refused by the counts and sums so far, or kept.
+-- Whether a record is refused: it is not, or under a number with a place.
+pub data Verdict : Type 0 where
+  clear : Verdict
+  faulty : ℕ → ℕ → Verdict
+
+abbrev pub unlessFaulty : ℕ → ℕ → Verdict → Verdict
+unlessFaulty fault place rest = cond (eqb fault 0) rest (faulty fault place)
+
+-- The record at an offset after a description. UN and AC first close the open unit, whose fault carries the offset of its UN mark; every
+-- other fault of a record carries the record's own offset.
+abbrev pub entryVerdict : Description → Entry → ℕ → Verdict
+entryVerdict d (unitEntry u) at =
+    unlessFaulty (closingFault (length (d .units)) (lastSums d)) (lastUnit d .at)
+    (unlessFaulty (unitFault (length (d .units)) (length (d .aquifers)) (summed u)) at clear)
+entryVerdict d (soilEntry p) at =
+    unlessFaulty (soilFault (length (d .units)) (length (d .aquifers)) (lastSums d) (p .cover) (p .soil) (p .hectares)) at clear
+entryVerdict d (yearEntry y) at = unlessFaulty (yearFault (length (d .units)) (length (d .aquifers)) (lastSums d) y) at clear
+entryVerdict d (aquiferEntry a) at =
+    unlessFaulty (closingFault (length (d .units)) (lastSums d)) (lastUnit d .at)
+    (unlessFaulty (aquiferFault (length (d .aquifers)) a) at clear)
+
+-- Reading from an offset on, at most so many records: a record is refused, or kept and the next one read.
 unfoldable pub readingFrom : ℕ → List ℕ → ℕ → Description → Outcome
 readingFrom zero s at d = refused 1 at
 readingFrom (suc records) s at d =
-    elim (next s at (lastSums d) (length (d .units)) (length (d .aquifers))) [
-      | Ends ↦ ended d at
-      | Refused n p ↦ refused n p
-      | Opens u to ↦ readingFrom records s to (withUnit d (unitAt s at))
-      | Grows u to ↦ readingFrom records s to (withLast d (grownAt s at d))
-      | Adds a to ↦ readingFrom records s to (withAquifer d a)
+    elim (entryAt s at) [
+      | noEntry ↦ ended d at
+      | failing n ↦ refused n at
+      | stands e to ↦ elim (entryVerdict d e at) [ clear ↦ readingFrom records s to (withEntry d e) | faulty n p ↦ refused n p ]
     ]
 
 -- Reading a description. Each record takes bytes, so there are no more records than bytes.

@@ -3,7 +3,7 @@ ghost use mathlib.Core.Path.{_≡_};
 ghost use Prim.Native.Nat.{_+_, _≤_};
 ghost use lib.ListN.{length};
 ghost use Rattle.record.specs.Fault.{Sane};
-ghost use Rattle.book.specs.Reading as reading;
+ghost use Rattle.book.specs.Steps as steps;
 use crate::Next;
 use record::Mark;
 use record::UnitRecord;
@@ -28,7 +28,7 @@ use record::year_at;
 fn unit_step(s: &[u8], at: usize, u: UnitRecord, units: usize, aquifers: usize) -> Next
     requires { ⌜ at ≤ length (now s) ⌝ }
     requires { ⌜ Sane u ⌝ }
-    ensures { λ r. ⌜ r ≡ reading.unitStep (now (s .entry)) at u units aquifers ⌝ }
+    ensures { λ r. ⌜ r ≡ steps.unitStep (now (s .entry)) at u units aquifers ⌝ }
 {
     if s.len() - at < 31 {
         return Next::Refused {
@@ -59,7 +59,7 @@ fn unit_step(s: &[u8], at: usize, u: UnitRecord, units: usize, aquifers: usize) 
 fn soil_step(s: &[u8], at: usize, u: UnitRecord, units: usize, aquifers: usize) -> Next
     requires { ⌜ at ≤ length (now s) ⌝ }
     requires { ⌜ Sane u ⌝ }
-    ensures { λ r. ⌜ r ≡ reading.soilStep (now (s .entry)) at u units aquifers ⌝ }
+    ensures { λ r. ⌜ r ≡ steps.soilStep (now (s .entry)) at u units aquifers ⌝ }
 {
     if s.len() - at < 8 {
         return Next::Refused {
@@ -87,7 +87,7 @@ fn soil_step(s: &[u8], at: usize, u: UnitRecord, units: usize, aquifers: usize) 
 fn rain_step(s: &[u8], at: usize, u: UnitRecord, units: usize, aquifers: usize) -> Next
     requires { ⌜ at ≤ length (now s) ⌝ }
     requires { ⌜ Sane u ⌝ }
-    ensures { λ r. ⌜ r ≡ reading.rainStep (now (s .entry)) at u units aquifers ⌝ }
+    ensures { λ r. ⌜ r ≡ steps.rainStep (now (s .entry)) at u units aquifers ⌝ }
 {
     if s.len() - at < 4 {
         return Next::Refused {
@@ -114,7 +114,7 @@ fn rain_step(s: &[u8], at: usize, u: UnitRecord, units: usize, aquifers: usize) 
 fn gauge_step(s: &[u8], at: usize, u: UnitRecord, units: usize, aquifers: usize) -> Next
     requires { ⌜ at ≤ length (now s) ⌝ }
     requires { ⌜ Sane u ⌝ }
-    ensures { λ r. ⌜ r ≡ reading.gaugeStep (now (s .entry)) at u units aquifers ⌝ }
+    ensures { λ r. ⌜ r ≡ steps.gaugeStep (now (s .entry)) at u units aquifers ⌝ }
 {
     if s.len() - at < 34 {
         return Next::Refused {
@@ -140,7 +140,7 @@ fn gauge_step(s: &[u8], at: usize, u: UnitRecord, units: usize, aquifers: usize)
 fn aquifer_step(s: &[u8], at: usize, u: UnitRecord, units: usize, aquifers: usize) -> Next
     requires { ⌜ at ≤ length (now s) ⌝ }
     requires { ⌜ Sane u ⌝ }
-    ensures { λ r. ⌜ r ≡ reading.aquiferStep (now (s .entry)) at u units aquifers ⌝ }
+    ensures { λ r. ⌜ r ≡ steps.aquiferStep (now (s .entry)) at u units aquifers ⌝ }
 {
     if s.len() - at < 22 {
         return Next::Refused {
@@ -174,7 +174,7 @@ fn aquifer_step(s: &[u8], at: usize, u: UnitRecord, units: usize, aquifers: usiz
 pub fn next(s: &[u8], at: usize, u: UnitRecord, units: usize, aquifers: usize) -> Next
     requires { ⌜ at ≤ length (now s) ⌝ }
     requires { ⌜ Sane u ⌝ }
-    ensures { λ r. ⌜ r ≡ reading.next (now (s .entry)) at u units aquifers ⌝ }
+    ensures { λ r. ⌜ r ≡ steps.next (now (s .entry)) at u units aquifers ⌝ }
 {
     let left = s.len() - at;
     if left == 0 {

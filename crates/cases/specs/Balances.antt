@@ -29,7 +29,8 @@ use Rattle.river.specs.Reserve.{committedTo, committed}
 use Rattle.basin.specs.Sound.{sound, flowing}
 use Rattle.reach.specs.Reach.{belowTo, liesBelow, outletTo, outlet}
 use Rattle.book.specs.declared.Opened.{Opened}
-use Rattle.book.specs.Reading.{next, readingFrom, opened}
+use Rattle.book.specs.Reading.{readingFrom, opened}
+use Rattle.record.specs.Entries.{entryAt}
 use Rattle.record.specs.Calls.{finished, callAt, callsFrom, callsOf, endingFrom, endingOf}
 use Rattle.book.proofs.Promises.{opening-sound}
 use Rattle.effect.specs.Granted.{granted}
@@ -104,7 +105,7 @@ lastBalance = bookBalance 5000 200 400 1500 (inForce firstTitle ∷ inForce four
 
 -- Opening the printed book gives the first of them, which is sound as every balance that is opened.
 pub printed-opens : opened printedBook ≡ record { answer = Accepted; place = 379; balance = printedBalance }
-unfolding printedBook printedDescription printedCalls printedBalance readingFrom next table tabulate firstFrom flow gather gatherTo sumOf yearsSum areaOf weightedOf rainYear coefficient coefficients rounded
+unfolding printedBook printedDescription printedCalls printedBalance readingFrom entryAt table tabulate firstFrom flow gather gatherTo sumOf yearsSum areaOf weightedOf rainYear coefficient coefficients rounded
 printed-opens = refl
 
 pub printed-sound : sound (viewOf printedBalance) ≡ true

@@ -16,7 +16,8 @@ use Rattle.runoff.specs.Mean.{rounded}
 use Rattle.runoff.specs.Record.{Plot, Gauged, areaOf, weightedOf, yearsSum}
 use Rattle.river.specs.Flow.{flow}
 use Rattle.book.specs.declared.Opened.{Opened}
-use Rattle.book.specs.Reading.{next, readingFrom, opened}
+use Rattle.book.specs.Reading.{readingFrom, opened}
+use Rattle.record.specs.Entries.{entryAt}
 use Rattle.cases.specs.Printed.{unitBytes, soilBytes, rainBytes, gaugeBytes}
 
 -- So many hectares of a cover on a soil.
@@ -114,29 +115,29 @@ opensOne size runoff =
     }
 
 pub opens-a : opened (rainBook meadow (steady 800)) ≡ opensOne 119 10080
-unfolding readingFrom next table tabulate firstFrom flow gather gatherTo sumOf yearsSum areaOf weightedOf rainYear coefficient coefficients rounded
+unfolding readingFrom entryAt table tabulate firstFrom flow gather gatherTo sumOf yearsSum areaOf weightedOf rainYear coefficient coefficients rounded
 opens-a = refl
 
 pub opens-b : opened (rainBook forest (steady 800)) ≡ opensOne 119 1540
-unfolding readingFrom next table tabulate firstFrom flow gather gatherTo sumOf yearsSum areaOf weightedOf rainYear coefficient coefficients rounded
+unfolding readingFrom entryAt table tabulate firstFrom flow gather gatherTo sumOf yearsSum areaOf weightedOf rainYear coefficient coefficients rounded
 opens-b = refl
 
 pub opens-c : opened (rainBook forest uneven) ≡ opensOne 119 2100
-unfolding readingFrom next table tabulate firstFrom flow gather gatherTo sumOf yearsSum areaOf weightedOf rainYear coefficient coefficients rounded
+unfolding readingFrom entryAt table tabulate firstFrom flow gather gatherTo sumOf yearsSum areaOf weightedOf rainYear coefficient coefficients rounded
 opens-c = refl
 
 pub opens-d : opened (rainBook half (steady 500)) ≡ opensOne 127 1
-unfolding readingFrom next table tabulate firstFrom flow gather gatherTo sumOf yearsSum areaOf weightedOf rainYear coefficient coefficients rounded
+unfolding readingFrom entryAt table tabulate firstFrom flow gather gatherTo sumOf yearsSum areaOf weightedOf rainYear coefficient coefficients rounded
 opens-d = refl
 
 pub opens-e : opened (rainBook under (steady 500)) ≡ opensOne 127 0
-unfolding readingFrom next table tabulate firstFrom flow gather gatherTo sumOf yearsSum areaOf weightedOf rainYear coefficient coefficients rounded
+unfolding readingFrom entryAt table tabulate firstFrom flow gather gatherTo sumOf yearsSum areaOf weightedOf rainYear coefficient coefficients rounded
 opens-e = refl
 
 pub opens-mixed : opened (rainBook half mixed) ≡ opensOne 127 0
-unfolding readingFrom next table tabulate firstFrom flow gather gatherTo sumOf yearsSum areaOf weightedOf rainYear coefficient coefficients rounded
+unfolding readingFrom entryAt table tabulate firstFrom flow gather gatherTo sumOf yearsSum areaOf weightedOf rainYear coefficient coefficients rounded
 opens-mixed = refl
 
 pub opens-gauged : opened (gaugedBook gauges) ≡ opensOne 711 760
-unfolding readingFrom next table tabulate firstFrom flow gather gatherTo sumOf yearsSum areaOf weightedOf rounded
+unfolding readingFrom entryAt table tabulate firstFrom flow gather gatherTo sumOf yearsSum areaOf weightedOf rounded
 opens-gauged = refl

@@ -13,11 +13,13 @@ use Rattle.laws.proofs.Parts.{Less, less-above, less-below, by-sign}
 use Rattle.model.specs.declared.Aquifer.{Aquifer}
 use Rattle.record.specs.declared.UnitRecord.{UnitRecord}
 use Rattle.runoff.specs.Soil.{Known}
-use Rattle.record.specs.Fault.{notTerm, notStorage, termsOutside, aquiferOutside, soilOutside, soilFault, rainFault, gaugeOutsideBy, gaugeOutside, gaugeFault, YearRange, gaugeOutsideAt}
+use Rattle.record.specs.Fault.{notTerm, notStorage, termsOutside, aquiferOutside, soilOutside, soilFault, rainFault, gaugeOutsideBy, gaugeOutside, gaugeFault, YearRange, gaugeOutsideAt, gaugedOutside}
+use Rattle.record.specs.Described.{gaugedAt}
 use mathlib.Core.List.{List}
 use Rattle.record.specs.Bytes.{bits32, signedBits32}
 use Rattle.record.specs.Record.{gaugeOf}
 use Rattle.runoff.specs.Year.{gaugedYear}
+use Rattle.runoff.specs.Record.{Gauged, gaugedOf}
 use Rattle.runoff.proofs.Gauged.{gauged-parts}
 
 -- A disjunction that fails, by its two sides.
@@ -195,7 +197,7 @@ terms-within a b c d e q =
       fifth = ltb-false _ _ (or-right (notTerm d) _ q₄);
     }
 
-pub gauge-range : (outflow inflow extraction exports imports returns evaporation : ℕ) (storage : ℤ)
+gauge-range : (outflow inflow extraction exports imports returns evaporation : ℕ) (storage : ℤ)
     → gaugeOutside outflow inflow extraction exports imports returns evaporation storage ≡ false
     → YearRange (gaugedYear outflow inflow extraction exports imports returns evaporation storage)
 gauge-range outflow inflow extraction exports imports returns evaporation storage q =
@@ -207,6 +209,10 @@ gauge-range outflow inflow extraction exports imports returns evaporation storag
     let n = ltb-false 2000000000 inflow (or-left (ltb 2000000000 inflow) _ q₂) in
     let p = gauged-parts outflow inflow extraction exports imports returns evaporation storage in
     record { gain = omega (arith, less-above p); loss = omega (arith, less-below p) }
+
+pub gauged-range : (y : Gauged) → gaugedOutside y ≡ false → YearRange (gaugedOf y)
+gauged-range y q =
+    gauge-range (y .outflow) (y .inflow) (y .extraction) (y .exports) (y .imports) (y .returns) (y .evaporation) (y .storage) q
 
 pub gauge-inside : (outflow inflow extraction exports imports returns evaporation : ℕ) (storage : ℤ)
     → gaugeOutside outflow inflow extraction exports imports returns evaporation storage ≡ false → StorageWithin storage
@@ -220,6 +226,4 @@ inside-at s at q =
     (bits32 s (at + 26)) (signedBits32 s (at + 30)) q
 
 pub range-at : (s : List ℕ) (at : ℕ) → gaugeOutsideAt s at ≡ false → YearRange (gaugeOf s at)
-range-at s at q =
-    gauge-range (bits32 s (at + 2)) (bits32 s (at + 6)) (bits32 s (at + 10)) (bits32 s (at + 14)) (bits32 s (at + 18)) (bits32 s (at + 22))
-    (bits32 s (at + 26)) (signedBits32 s (at + 30)) q
+range-at s at q = gauged-range (gaugedAt s at) q

@@ -1,14 +1,17 @@
 -- The sums that are kept of the open unit are those of its records: one record more is one record more in the sums. Assumes nothing.
 use Prim.Native.Nat.{ℕ, _+_}
-use mathlib.Core.Path.{_≡_, refl}
+use mathlib.Core.Path.{_≡_, refl, ap}
 use mathlib.Core.List.{List, [], _∷_, _++_}
+use lib.IntN.{pos}
 use lib.ListN.{length, length-append}
 use native.Mathlib.Omega.{arith}
-use Rattle.runoff.specs.Record.{Plot, Year, areaOf, weightedOf, yearGives, yearsSum}
+use Rattle.laws.specs.Signed.{above, below}
+use Rattle.runoff.specs.Record.{Plot, Year, areaOf, weightedOf, yearGives, yearsSum, sumOn}
 use Rattle.runoff.proofs.Record.{areaOf-more, weightedOf-more, yearsSum-more}
 use Rattle.record.specs.Record.{unitRecord, withSoil, withYear, rainOf, gaugeOf, noSums}
 use Rattle.record.specs.Described.{DescribedUnit, unitAt, plotAt, rainAt, gaugeAt, withRecords, addPlot, addYear, noUnit, summed}
 use Rattle.record.specs.Bytes.{bits8, bits16, bits32}
+use Rattle.record.specs.Fault.{Sane}
 use Rattle.record.proofs.Clean.{Fine}
 
 one-more : {A : Type 0} (xs : List A) (x : A) → length (xs ++ (x ∷ [])) ≡ length xs + 1
@@ -28,7 +31,7 @@ pub summed-unit : (s : List ℕ) (i : ℕ) → summed (unitAt s i) ≡ unitRecor
 unfolding areaOf weightedOf yearsSum
 summed-unit s i = refl
 
-summed-plot : (u : DescribedUnit) (p : Plot) → length (u .years) ≡ 0
+pub summed-plot : (u : DescribedUnit) (p : Plot) → length (u .years) ≡ 0
     → summed (addPlot u p) ≡ withSoil (summed u) (p .cover) (p .soil) (p .hectares)
 summed-plot u p e = λ i.
     record {
@@ -48,7 +51,7 @@ summed-plot u p e = λ i.
       sum = no-years (areaOf (u .plots ++ (p ∷ []))) (weightedOf (u .plots ++ (p ∷ []))) (areaOf (u .plots)) (weightedOf (u .plots)) (u .years) e i;
     }
 
-summed-year : (u : DescribedUnit) (y : Year)
+pub summed-year : (u : DescribedUnit) (y : Year)
     → summed (addYear u y) ≡ withYear (summed u) (yearGives (areaOf (u .plots)) (weightedOf (u .plots)) y)
 summed-year u y = λ i.
     record {
@@ -67,6 +70,19 @@ summed-year u y = λ i.
       years = one-more (u .years) y i;
       sum = yearsSum-more (areaOf (u .plots)) (weightedOf (u .plots)) (u .years) y i;
     }
+
+-- A unit that begins has the sums of no records.
+pub begun-sane : (u : DescribedUnit) → u .plots ≡ [] → u .years ≡ [] → Sane (summed u)
+unfolding areaOf weightedOf yearsSum
+begun-sane u p y =
+    let soils : length (u .plots) ≡ 0 = ap length p in
+    let area : areaOf (u .plots) ≡ 0 = ap areaOf p in
+    let weight : weightedOf (u .plots) ≡ 0 = ap weightedOf p in
+    let years : length (u .years) ≡ 0 = ap length y in
+    let sum : sumOn (u .plots) (u .years) ≡ pos 0 = λ i. sumOn (p i) (y i) in
+    let high : above (sumOn (u .plots) (u .years)) ≡ 0 = ap above sum in
+    let low : below (sumOn (u .plots) (u .years)) ≡ 0 = ap below sum in
+    record { few = omega arith; area = omega arith; weight = omega arith; short = omega arith; gains = omega arith; losses = omega arith; rain = λ n. low }
 
 -- The same of the SU, the PR and the AF at an offset.
 pub summed-soil : (s : List ℕ) (i : ℕ) (u : DescribedUnit) → length (u .years) ≡ 0

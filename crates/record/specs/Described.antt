@@ -7,8 +7,6 @@ use lib.ListN.{length}
 use Rattle.model.specs.declared.Unit.{Unit}
 use Rattle.runoff.specs.Record.{Plot, Gauged, Year, ofRain, ofGauge, areaOf, weightedOf, sumOn, runoffOf}
 use Rattle.record.specs.declared.UnitRecord.{UnitRecord}
-use Rattle.record.specs.declared.Mark.{Mark}
-use Rattle.record.specs.declared.Mark.the-variants.{Un, Su, Pr, Af, Ac, Call, Unknown}
 use Rattle.record.specs.Bytes.{bits8, bits16, bits32, signedBits32}
 
 -- The offset of the unit's UN mark, the fields of its UN, its soil records and its years, in file order.
@@ -92,16 +90,6 @@ addPlot u p = withRecords u (u .plots ++ (p ∷ [])) (u .years)
 
 abbrev pub addYear : DescribedUnit → Year → DescribedUnit
 addYear u y = withRecords u (u .plots) (u .years ++ (y ∷ []))
-
--- The unit with the record at an offset in, by the record's mark: SU, PR and AF belong to it.
-abbrev pub withRecord : Mark → List ℕ → ℕ → DescribedUnit → DescribedUnit
-withRecord Un s at u = u
-withRecord Su s at u = addPlot u (plotAt s at)
-withRecord Pr s at u = addYear u (rainAt s at)
-withRecord Af s at u = addYear u (gaugeAt s at)
-withRecord Ac s at u = u
-withRecord Call s at u = u
-withRecord Unknown s at u = u
 
 -- A unit has either soil records and then rain years, or gauged years and no soil records.
 pub record RainUnit (u : DescribedUnit) : Type 0 where

@@ -12,6 +12,7 @@ use Rattle.model.specs.declared.Aquifer.{Aquifer}
 use Rattle.model.specs.Limits.{unitLimit, aquiferLimit, termLimit}
 use Rattle.river.specs.Wells.{recharge}
 use Rattle.runoff.specs.Mean.{divisor}
+use Rattle.runoff.specs.Record.{Gauged, Year, ofRain, ofGauge}
 use Rattle.record.specs.Bytes.{bits32, signedBits32}
 use Rattle.record.specs.Record.{isGauged}
 use Rattle.record.specs.declared.UnitRecord.{UnitRecord}
@@ -107,6 +108,15 @@ gaugeFault units aquifers u outside =
     (cond (ltb 0 (u .soils)) 3
     (cond (leb 50 (u .years)) 4
     (cond outside 5 0))))
+
+-- A year, by its kind: PR or AF.
+abbrev pub gaugedOutside : Gauged → Bool
+gaugedOutside y =
+    gaugeOutside (y .outflow) (y .inflow) (y .extraction) (y .exports) (y .imports) (y .returns) (y .evaporation) (y .storage)
+
+abbrev pub yearFault : ℕ → ℕ → UnitRecord → Year → ℕ
+yearFault units aquifers u (ofRain mm) = rainFault units aquifers u mm
+yearFault units aquifers u (ofGauge y) = gaugeFault units aquifers u (gaugedOutside y)
 
 -- AC: four terms and a storage change.
 abbrev pub aquiferOutside : Aquifer → Bool

@@ -2,5 +2,6 @@
 pub mod Bytes
 pub mod Record
 pub mod Described
+pub mod Entries
 pub mod Fault
 pub mod Calls

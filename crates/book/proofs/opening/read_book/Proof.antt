@@ -6,7 +6,7 @@ use native.Mathlib.Omega.{arith}
 use borrow.Author.Needs.{needs}
 use borrow.Author.Count.{falls-down}
 use Rattle.record.proofs.Clean.{closing-clean}
-use Rattle.book.proofs.Following.{Reached, reached-start, reached-ends, reached-refused, opens-facts, reached-first, reached-next, reached-grows, adds-room, reached-adds, reached-over, reached-ready}
+use Rattle.book.proofs.Following.{Reached, reached-start, reached-ends, reached-refused, opens-closing, reached-first, reached-next, reached-grows, adds-room, reached-adds, reached-over, reached-ready}
 use Rattle.book.proofs.opening.read_book.Statement.{statement}
 use Rattle.book.proofs.opening.read_book.Tie as tie
 
@@ -67,8 +67,8 @@ sub-last c = omega (arith, c .if1 .left)
 unit-of-requires : tie.Need-unit-of-requires Inv-loop μ-loop
 unit-of-requires c κs =
     let r = c .before .before .before .before .before .before .loop .inv in
-    let f = opens-facts (c .before .before .before .before .before .before .before .before .before .before .args .s .now) _ _ _ _ _ _ (c .before .before .before .before .before .before .loop .inv) (c .before .before .before .before .before .loop-test .taken) _ _ (sym (c .before .before .before .before .next .ensures) ∙ c .before .before .step2 .given .1) in
-    rw (r .last) (closing-clean (length (r .description .units)) (lastSums (r .description)) (f .closing) (omega (arith, r .count, c .if1 .left)) (r .good .sane))
+    let f = opens-closing (c .before .before .before .before .before .before .before .before .before .before .args .s .now) _ _ _ _ _ _ (c .before .before .before .before .before .before .loop .inv) (c .before .before .before .before .before .loop-test .taken) _ _ (sym (c .before .before .before .before .next .ensures) ∙ c .before .before .step2 .given .1) in
+    rw (r .last) (closing-clean (length (r .description .units)) (lastSums (r .description)) f (omega (arith, r .count, c .if1 .left)) (r .good .sane))
 
 mul-closed : tie.Need-mul-closed Inv-loop μ-loop
 mul-closed c = omega (arith, c .before .before .before .before .before .before .before .loop .inv .count, c .before .before .before .before .before .before .before .loop .inv .good .few)
