@@ -11,13 +11,13 @@ use Rattle.record.specs.declared.Mark.{Mark}
 use Rattle.record.specs.declared.UnitRecord.{UnitRecord}
 use Rattle.record.specs.Bytes.{bits8}
 use Rattle.record.specs.Record.{markOf}
-use Rattle.book.specs.Steps.{whole, unless, marked, next}
+use Rattle.book.specs.Steps.{wholeRecord, unless, marked, next}
 
 -- Fewer bytes left than the record's.
-pub is-short : (s : List ℕ) (at size : ℕ) (go : Next) → length s - at < size → Refused 1 at ≡ whole s at size go
+pub is-short : (s : List ℕ) (at size : ℕ) (go : Next) → length s - at < size → Refused 1 at ≡ wholeRecord s at size go
 is-short s at size go h = hit _ _ _ _ (lt-ltb (length s - at) size h) refl
 
-pub is-whole : (s : List ℕ) (at size : ℕ) (go r : Next) → size ≤ length s - at → r ≡ go → r ≡ whole s at size go
+pub is-whole : (s : List ℕ) (at size : ℕ) (go r : Next) → size ≤ length s - at → r ≡ go → r ≡ wholeRecord s at size go
 is-whole s at size go r h e = miss _ _ _ _ (le-ltb (length s - at) size h) e
 
 -- A fault that was found, and one that was not.

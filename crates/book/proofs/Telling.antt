@@ -19,7 +19,7 @@ use Rattle.record.proofs.Summing.{summed-unit, summed-soil, summed-rain, summed
 use Rattle.book.specs.declared.Next.{Next}
 use Rattle.book.specs.declared.Next.the-variants.{Ends, Refused, Opens, Grows, Adds}
 use Rattle.book.specs.Reading.{Description, lastUnit, lastSums, withLast, withEntry, Verdict, clear, faulty, unlessFaulty, entryVerdict, refused, readingFrom}
-use Rattle.book.specs.Steps.{unless, whole, unitStep, soilStep, rainStep, gaugeStep, aquiferStep, marked, next}
+use Rattle.book.specs.Steps.{unless, wholeRecord, unitStep, soilStep, rainStep, gaugeStep, aquiferStep, marked, next}
 use Rattle.book.proofs.Entries.{reads-failing, reads-faulty}
 
 -- A UN that opens a unit: it stands there and is not refused, and the sums that are told are the unit's.
@@ -59,7 +59,7 @@ module _ (P : Next → Type 0) where
       by-eq fault 0 (λ e. rw (eq-eqb fault 0 e) (on e)) (λ e. rw (ne-eqb fault 0 e) (bad e))
 
   through-whole : (s : List ℕ) (at size : ℕ) (go : Next) → (length s - at < size → P (Refused 1 at)) → (size ≤ length s - at → P go)
-      → P (whole s at size go)
+      → P (wholeRecord s at size go)
   through-whole s at size go bad on =
       by-lt (length s - at) size (λ h. rw (lt-ltb (length s - at) size h) (bad h)) (λ h. rw (le-ltb (length s - at) size h) (on h))
 
@@ -87,7 +87,7 @@ module _ (s : List ℕ) (at : ℕ) (d : Description) where
   -- A record with one test, by its fault.
   one-told : (size fault : ℕ) (e : Entry) (go : Next) → entryAt s at ≡ wholeEntry s at size e → entryVerdict d e at ≡ unlessFaulty fault at clear
       → (entryAt s at ≡ stands e (at + size) → entryVerdict d e at ≡ clear → fault ≡ 0 → Told s at d go)
-      → Told s at d (whole s at size (unless fault at go))
+      → Told s at d (wholeRecord s at size (unless fault at go))
   one-told size fault e go h v on =
       through-whole (Told s at d) s at size _ (short size e h)
       (λ l. through-unless (Told s at d) fault at go
@@ -98,7 +98,7 @@ module _ (s : List ℕ) (at : ℕ) (d : Description) where
   two-told : (size closing fault : ℕ) (e : Entry) (go : Next) → entryAt s at ≡ wholeEntry s at size e
       → entryVerdict d e at ≡ unlessFaulty closing (lastUnit d .at) (unlessFaulty fault at clear)
       → (entryAt s at ≡ stands e (at + size) → entryVerdict d e at ≡ clear → Told s at d go)
-      → Told s at d (whole s at size (unless closing (lastUnit d .at) (unless fault at go)))
+      → Told s at d (wholeRecord s at size (unless closing (lastUnit d .at) (unless fault at go)))
   two-told size closing fault e go h v on =
       through-whole (Told s at d) s at size _ (short size e h)
       (λ l. through-unless (Told s at d) closing (lastUnit d .at) _

@@ -18,13 +18,13 @@ abbrev pub unless : ℕ → ℕ → Next → Next
 unless fault place go = cond (eqb fault 0) go (Refused fault place)
 
 -- 1 fewer bytes left than the record's mark and body.
-abbrev pub whole : List ℕ → ℕ → ℕ → Next → Next
-whole s at size go = cond (ltb (length s - at) size) (Refused 1 at) go
+abbrev pub wholeRecord : List ℕ → ℕ → ℕ → Next → Next
+wholeRecord s at size go = cond (ltb (length s - at) size) (Refused 1 at) go
 
 -- UN: 31 bytes. It closes the open unit, then is refused or opens the next.
 abbrev pub unitStep : List ℕ → ℕ → UnitRecord → ℕ → ℕ → Next
 unitStep s at u units aquifers =
-    whole s at 31
+    wholeRecord s at 31
     (unless (closingFault units u) (u .at)
     (unless (unitFault units aquifers (unitRecord s at)) at
     (Opens (unitRecord s at) (at + 31))))
@@ -32,28 +32,28 @@ unitStep s at u units aquifers =
 -- SU: 8 bytes.
 abbrev pub soilStep : List ℕ → ℕ → UnitRecord → ℕ → ℕ → Next
 soilStep s at u units aquifers =
-    whole s at 8
+    wholeRecord s at 8
     (unless (soilFault units aquifers u (bits8 s (at + 2)) (bits8 s (at + 3)) (bits32 s (at + 4))) at
     (Grows (withSoil u (bits8 s (at + 2)) (bits8 s (at + 3)) (bits32 s (at + 4))) (at + 8)))
 
 -- PR: 4 bytes.
 abbrev pub rainStep : List ℕ → ℕ → UnitRecord → ℕ → ℕ → Next
 rainStep s at u units aquifers =
-    whole s at 4
+    wholeRecord s at 4
     (unless (rainFault units aquifers u (bits16 s (at + 2))) at
     (Grows (withYear u (rainOf u (bits16 s (at + 2)))) (at + 4)))
 
 -- AF: 34 bytes.
 abbrev pub gaugeStep : List ℕ → ℕ → UnitRecord → ℕ → ℕ → Next
 gaugeStep s at u units aquifers =
-    whole s at 34
+    wholeRecord s at 34
     (unless (gaugeFault units aquifers u (gaugeOutsideAt s at)) at
     (Grows (withYear u (gaugeOf s at)) (at + 34)))
 
 -- AC: 22 bytes. It closes the open unit too.
 abbrev pub aquiferStep : List ℕ → ℕ → UnitRecord → ℕ → ℕ → Next
 aquiferStep s at u units aquifers =
-    whole s at 22
+    wholeRecord s at 22
     (unless (closingFault units u) (u .at)
     (unless (aquiferFault aquifers (aquiferRecord s at)) at
     (Adds (aquiferRecord s at) (at + 22))))

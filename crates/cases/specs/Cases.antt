@@ -62,8 +62,8 @@ abbrev pub printedView : View
 printedView = viewOf (opened printedBook .balance)
 
 -- The table of three units and an aquifer, with 0 in the unused places.
-abbrev pub tableOf : UnitFigures → UnitFigures → UnitFigures → AquiferFigures → Figures
-tableOf first second third well =
+abbrev pub tableWith : UnitFigures → UnitFigures → UnitFigures → AquiferFigures → Figures
+tableWith first second third well =
     record {
       answer = Accepted;
       units = first ∷ second ∷ third ∷ replicate 61 noUnitFigures;
@@ -73,11 +73,11 @@ tableOf first second third well =
 -- The table of the printed book before any call, and after call 1.
 abbrev pub beforeCalls : Figures
 beforeCalls =
-    tableOf (unitRow 10080 3063 3063 7017) (unitRow 1540 468 468 1072) (unitRow 10160 1000 469 9160) (aquiferRow 2000 200)
+    tableWith (unitRow 10080 3063 3063 7017) (unitRow 1540 468 468 1072) (unitRow 10160 1000 469 9160) (aquiferRow 2000 200)
 
 abbrev pub afterFirstCall : Figures
 afterFirstCall =
-    tableOf (unitRow 10080 4460 4460 5620) (unitRow 1540 681 681 859) (unitRow 8560 1000 859 7560) (aquiferRow 2000 200)
+    tableWith (unitRow 10080 4460 4460 5620) (unitRow 1540 681 681 859) (unitRow 8560 1000 859 7560) (aquiferRow 2000 200)
 
 -- What a contributor of c would get of unit 3's demand if its share were floored alone.
 abbrev pub flooredAlone : View → ℕ → ℕ
@@ -165,7 +165,7 @@ unfolding table tabulate
 one-aquifer f = refl
 
 abbrev tableFrom : View → Figures
-tableFrom v = tableOf (unitFigures v 0) (unitFigures v 1) (unitFigures v 2) (aquiferFigures v 0)
+tableFrom v = tableWith (unitFigures v 0) (unitFigures v 1) (unitFigures v 2) (aquiferFigures v 0)
 
 figures-are : (v : View) → sound v ≡ true → v .units ≡ 3 → v .aquifers ≡ 1 → figuresReply v ≡ tableFrom v
 figures-are v s three one =

@@ -48,8 +48,8 @@ abbrev pub mixed : List ℕ
 mixed = replicate 19 500 ++ 400 ∷ []
 
 -- A gauged year with this storage change, and another number in each field.
-abbrev pub gaugedYear : ℤ → Gauged
-gaugedYear storage =
+abbrev pub yearWith : ℤ → Gauged
+yearWith storage =
     record {
       outflow = 1000;
       inflow = 200;
@@ -63,7 +63,7 @@ gaugedYear storage =
 
 -- Nineteen years with a falling storage and one with a rising one.
 abbrev pub gauges : List Gauged
-gauges = replicate 19 (gaugedYear (negsuc 7)) ++ gaugedYear (pos 2) ∷ []
+gauges = replicate 19 (yearWith (negsuc 7)) ++ yearWith (pos 2) ∷ []
 
 -- The bytes of soil records, of rain years and of gauged years.
 abbrev plotsBytes : List Plot → List ℕ

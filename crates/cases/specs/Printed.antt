@@ -17,14 +17,14 @@ signedBytes32 (pos n) = bytes32 n
 signedBytes32 (negsuc n) = bytes32 (2 ^ 32 - suc n)
 
 -- A list so many times over.
-abbrev pub times : ℕ → List ℕ → List ℕ
-times zero s = []
-times (suc n) s = s ++ times n s
+abbrev pub repeated : ℕ → List ℕ → List ℕ
+repeated zero s = []
+repeated (suc n) s = s ++ repeated n s
 
 -- UN: downstream unit, extraction and commitment, and 0 in all other entries.
 abbrev pub unitBytes : ℕ → ℕ → ℕ → List ℕ
 unitBytes downstream extraction commitment =
-    85 ∷ 78 ∷ downstream ∷ bytes32 extraction ++ times 5 (bytes32 0) ++ bytes32 commitment
+    85 ∷ 78 ∷ downstream ∷ bytes32 extraction ++ repeated 5 (bytes32 0) ++ bytes32 commitment
 
 -- SU: cover, soil and hectares.
 abbrev pub soilBytes : ℕ → ℕ → ℕ → List ℕ
@@ -58,7 +58,7 @@ wellTransferBytes aquifer unit volume = 84 ∷ 65 ∷ aquifer ∷ unit ∷ bytes
 -- A unit of 10,000 ha of one cover and soil with twenty years of 800 mm.
 abbrev pub wholeUnit : ℕ → ℕ → ℕ → ℕ → ℕ → List ℕ
 wholeUnit downstream extraction commitment cover soil =
-    unitBytes downstream extraction commitment ++ soilBytes cover soil 10000 ++ times 20 (rainBytes 800)
+    unitBytes downstream extraction commitment ++ soilBytes cover soil 10000 ++ repeated 20 (rainBytes 800)
 
 -- Units 1 and 2 drain to 3, an outlet with extraction 3000 and commitment 1000. Unit 1 has cover 14 soil 2; units 2 and 3 each cover 8
 -- soil 1. Aquifer: −200, 900, 1300, 500, 1300.
