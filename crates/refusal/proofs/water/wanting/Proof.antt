@@ -1,18 +1,23 @@
 -- `refusal::wanting` meets its contract. Assumes nothing.
-use mathlib.Core.Path.{refl}
+use mathlib.Core.Path.{sym, _∙_}
+use mir.Syntax.{w64}
+use mir.Val.{SFits}
 use borrow.Author.Needs.{needs}
-use Rattle.laws.proofs.Chain.{and-no, and-on, t-eq, f-eq}
+use Rattle.laws.proofs.Chain.{or-yes, or-on}
+use Rattle.refusal.proofs.Negative.{negative-kept}
 use Rattle.refusal.proofs.water.wanting.Statement.{statement}
 use Rattle.refusal.proofs.water.wanting.Tie as tie
 
 returns : tie.Need-returns
-returns c = and-no _ _ (f-eq _ _ (c .if1 .taken))
-
-add-result : tie.Need-add-result
-add-result c = search needs
+returns c =
+    let f : SFits w64 (c .before .before .args .f .flow) = search needs in
+    or-yes _ _ (sym (negative-kept _ f) ∙ c .if1 .taken)
 
 returns-2 : tie.Need-returns-2
-returns-2 c = and-on _ _ _ (t-eq _ _ (c .if1 .left)) refl
+returns-2 c =
+    let f : SFits w64 (c .before .before .before .args .f .flow) = search needs in
+    let g : SFits w64 (c .before .before .before .args .f .availability) = search needs in
+    or-on _ _ _ (sym (negative-kept _ f) ∙ c .before .if1 .left) (negative-kept _ g)
 
 pub wanting-spec : {M : Type 1} → statement M
-wanting-spec = tie.close (tie.spec returns add-result returns-2)
+wanting-spec = tie.close (tie.spec returns returns-2)
