@@ -12,7 +12,7 @@ use Rattle.record.specs.declared.CallMark.the-variants.{Gu, Ga, Tu, Ta, Ca, Non
 use Rattle.record.specs.declared.CallAt.{CallAt}
 use Rattle.record.specs.declared.CallAt.the-variants.{End, Fails, Asks}
 use Rattle.record.specs.Bytes.{bits8}
-use Rattle.record.specs.Calls.{callMark, wholeCall, callMarked, callAt, Ending, callsFrom, endingFrom, callsOf, endingOf}
+use Rattle.record.specs.Calls.{callMark, wholeCall, callMarked, callAt, callsFrom, endingFrom, callsOf, endingOf}
 
 abbrev Onward : List ℕ → ℕ → CallAt → Type 0
 Onward s at End = Unit {0}
