@@ -10,7 +10,7 @@ use Rattle.laws.proofs.Cases.{by-bool}
 use Rattle.laws.proofs.Arrays.{getD-table}
 use Rattle.model.specs.declared.Answer.{Answer}
 use Rattle.model.specs.declared.Answer.the-variants.{Accepted, Refused}
-use Rattle.model.specs.View.{View, viewOf}
+use Rattle.model.specs.View.{View}
 use Rattle.figures.specs.declared.UnitFigures.{UnitFigures}
 use Rattle.figures.specs.declared.AquiferFigures.{AquiferFigures}
 use Rattle.figures.specs.Figures.{unitFigures, noUnitFigures, allUnitFigures, aquiferFigures, noAquiferFigures, allAquiferFigures}

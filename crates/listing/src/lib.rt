@@ -1,6 +1,5 @@
 // What the program prints for a book, put into a lent buffer.
 ghost use mathlib.Core.Path.{_≡_};
-ghost use mathlib.Core.List.{_++_};
 ghost use Prim.Native.Nat.{_+_, _≤_};
 ghost use lib.ListN.{length, getD};
 ghost use mathlib.Core.Bool.{true};
