@@ -141,7 +141,7 @@ workable v = soundCounts v && entriesHold v
 
 -- What the test leaves in the four arrays of the forward pass: what that gives, where the flows can be worked out, and otherwise 0 in
 -- every place.
-pub record Left (b : Balance) (gained lost before arrived : List ℕ) : Type 0 where
+pub record ArraysLeft (b : Balance) (gained lost before arrived : List ℕ) : Type 0 where
   pub passed : workable (viewOf b) ≡ true → Flows (unitsView (b .units) (b .«unit_count»)) gained lost before arrived
   pub clear : workable (viewOf b) ≡ false → Clear gained lost before arrived
 

@@ -98,7 +98,7 @@ pub fn tested(
 ) -> bool
     requires { ⌜ Clear (now gained) (now lost) (now before) (now arrived) ⌝ }
     ensures { λ r. ⌜ r ≡ sounds.sound (viewOf b) ⌝ }
-    ensures { λ _. ⌜ sounds.Left b (now (gained .exit)) (now (lost .exit)) (now (before .exit)) (now (arrived .exit)) ⌝ }
+    ensures { λ _. ⌜ sounds.ArraysLeft b (now (gained .exit)) (now (lost .exit)) (now (before .exit)) (now (arrived .exit)) ⌝ }
 {
     let n = b.unit_count;
     let m = b.aquifer_count;

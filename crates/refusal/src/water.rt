@@ -19,8 +19,8 @@ use model::Balance;
 use model::Title;
 use model::Unit;
 
-// A unit with a negative flow or a negative availability, by its figures.
-fn wanting(f: UnitFigures) -> bool
+// Figures of a unit with a negative flow or a negative availability.
+fn in_deficit(f: UnitFigures) -> bool
     ensures { λ r. ⌜ r ≡ grants.inDeficit f ⌝ }
 {
     let flow = f.flow;
@@ -31,7 +31,7 @@ fn wanting(f: UnitFigures) -> bool
     availability < 0
 }
 
-// Some of n units drains to an outlet and is wanting, by their figures and their outlets.
+// Some of n units drains to an outlet and has a negative flow or a negative availability, by their figures and their outlets.
 fn dry_by(
     figures: [UnitFigures; Balance::UNITS],
     ends: [usize; Balance::UNITS],
@@ -45,7 +45,7 @@ fn dry_by(
     while i < n {
         if ends[i] == outlet {
             let f = figures[i];
-            if wanting(f) {
+            if in_deficit(f) {
                 return true;
             }
         }

@@ -10,7 +10,7 @@ use Rattle.river.specs.Flow.{Ready}
 use Rattle.river.specs.Passes.{Clear, Flows}
 use Rattle.river.specs.Units.{unitsView}
 use Rattle.river.proofs.Units.{alone}
-use Rattle.basin.specs.Sound.{soundCounts, entriesHold, workable, Left}
+use Rattle.basin.specs.Sound.{soundCounts, entriesHold, workable, ArraysLeft}
 use Rattle.basin.proofs.Chains.{stop-call, go-call, call-holds, call-fails, both-hold, first-fails, second-fails}
 use Rattle.basin.proofs.Order.{Few, few-of, entries-ready, none-negative, in-order}
 use Rattle.basin.proofs.test.tested.Statement.{statement}
@@ -21,11 +21,11 @@ counts-sound-requires c κs = search needs
 
 -- The four arrays are as they were where the flows cannot be worked out, and otherwise as the forward pass leaves them.
 module _ (b : Balance) {gained lost before arrived : List ℕ} where
-  untouched : Clear gained lost before arrived → workable (viewOf b) ≡ false → Left b gained lost before arrived
+  untouched : Clear gained lost before arrived → workable (viewOf b) ≡ false → ArraysLeft b gained lost before arrived
   untouched p e = record { passed = λ q. absurd (true≢false (sym q ∙ e)); clear = λ q. p }
 
   passed-over : Flows (unitsView (b .units) (b .«unit_count»)) gained lost before arrived → workable (viewOf b) ≡ true
-      → Left b gained lost before arrived
+      → ArraysLeft b gained lost before arrived
   passed-over f e = record { passed = λ q. f; clear = λ q. absurd (true≢false (sym e ∙ q)) }
 
 returns : tie.Need-returns

@@ -1,4 +1,4 @@
--- `refusal::dry_by` meets its contract. The loop's invariant: none of the first i units drains to the outlet and is wanting. Assumes nothing.
+-- `refusal::dry_by` meets its contract. The loop's invariant: none of the first i units drains to the outlet and is in deficit. Assumes nothing.
 use Prim.Native.Nat.{ℕ, _≤_, _<_, _-_}
 use mathlib.Core.Path.{_≡_, sym, ap, _∙_}
 use mathlib.Core.Logic.{⊎-elim}
@@ -37,14 +37,14 @@ mul-f c = omega arith
 array-copy-out-f : tie.Need-array-copy-out-f Inv-loop μ-loop
 array-copy-out-f c = omega arith
 
-wanting-requires : tie.Need-wanting-requires Inv-loop μ-loop
-wanting-requires c κs = search needs
+in-deficit-requires : tie.Need-in-deficit-requires Inv-loop μ-loop
+in-deficit-requires c κs = search needs
 
 returns : tie.Need-returns Inv-loop μ-loop
 returns c =
     let turn = c .before .before .before .before in
     sym (ap not (every-fails _ _ (turn .before .loop .i) (turn .loop-test .taken)
-    (ap not (t-and _ _ (t-eq _ _ (c .before .before .before .if1 .taken)) (sym (c .before .wanting .ensures) ∙ c .if2 .taken)))))
+    (ap not (t-and _ _ (t-eq _ _ (c .before .before .before .if1 .taken)) (sym (c .before .in-deficit .ensures) ∙ c .if2 .taken)))))
 
 add-i : tie.Need-add-i Inv-loop μ-loop
 add-i c = omega arith
@@ -76,7 +76,7 @@ dry-by-spec =
     array-read-if1
     mul-f
     array-copy-out-f
-    wanting-requires
+    in-deficit-requires
     returns
     add-i
     loop-less

@@ -1,12 +1,12 @@
--- `refusal::wanting` meets its contract. Assumes nothing.
+-- `refusal::in_deficit` meets its contract. Assumes nothing.
 use mathlib.Core.Path.{sym, _∙_}
 use mir.Syntax.{w64}
 use mir.Val.{SFits}
 use borrow.Author.Needs.{needs}
 use Rattle.laws.proofs.Chain.{or-yes, or-on}
 use Rattle.refusal.proofs.Negative.{negative-kept}
-use Rattle.refusal.proofs.water.wanting.Statement.{statement}
-use Rattle.refusal.proofs.water.wanting.Tie as tie
+use Rattle.refusal.proofs.water.in_deficit.Statement.{statement}
+use Rattle.refusal.proofs.water.in_deficit.Tie as tie
 
 returns : tie.Need-returns
 returns c =
@@ -19,5 +19,5 @@ returns-2 c =
     let g : SFits w64 (c .before .before .before .args .f .availability) = search needs in
     or-on _ _ _ (sym (negative-kept _ f) ∙ c .before .if1 .left) (negative-kept _ g)
 
-pub wanting-spec : {M : Type 1} → statement M
-wanting-spec = tie.close (tie.spec returns returns-2)
+pub in-deficit-spec : {M : Type 1} → statement M
+in-deficit-spec = tie.close (tie.spec returns returns-2)
