@@ -3,11 +3,11 @@
 --     minus-parts-of                            the same of a number that equals a difference
 --     equal-parts, parts-equal                  equality as an equation of parts, and back
 --     le-parts, parts-le                        the order ≤ℤ
---     ltZ-true .. parts-negative                the tests ltZ, leZ and nonNeg
+--     ltZ-false .. parts-negative               the tests ltZ, leZ and nonNeg
 --     parts-fit                                 what 64 bits hold
 --     above-read, below-read                    the parts that the code reads from a signed local
 --     Less z a b                                z is a − b: built up over a long sum, and read off at its end
--- A rule with a premise goes to `omega` by its bare name, `omega (arith, ltZ-true)`; one without wants its arguments.
+-- A rule with a premise goes to `omega` by its bare name, `omega (arith, nonNeg-true)`; one without wants its arguments.
 use Prim.Native.Nat.{ℕ, zero, suc, _+_, _-_, _≤_, _<_, _^_}
 use mathlib.Core.Path.{_≡_, refl, sym, ap, _∙_}
 use mathlib.Core.Bool.{Bool, true, false, true≢false}
@@ -17,7 +17,7 @@ use lib.Signed.{ltZ, leZ, nonNeg, _≤ℤ_}
 use mir.Syntax.{w64}
 use mir.Val.{SFits, toZ, ofZ}
 use native.Mathlib.Omega.{arith}
-use borrow.Author.Tests.{ltb-true, ltb-false, leb-true, lt-ltb, le-ltb, le-leb}
+use borrow.Author.Tests.{ltb-false, leb-true, lt-ltb, le-ltb, le-leb}
 use Rattle.laws.specs.Signed.{above, below, Roomy}
 use Rattle.laws.proofs.Cases.{by-lt}
 use Rattle.laws.proofs.Signs.{subℕ-lt, subℕ-le, whole}
@@ -61,12 +61,6 @@ parts-equal (negsuc a) (pos b) e = absurd (omega arith)
 parts-equal (negsuc a) (negsuc b) e = ap negsuc (omega arith)
 
 -- The orders.
-pub ltZ-true : (a b : ℤ) → ltZ a b ≡ true → above a + below b < below a + above b
-ltZ-true (pos a) (pos b) e = omega (arith, ltb-true a b e)
-ltZ-true (pos a) (negsuc b) e = absurd (true≢false (sym e))
-ltZ-true (negsuc a) (pos b) e = omega arith
-ltZ-true (negsuc a) (negsuc b) e = omega (arith, ltb-true b a e)
-
 pub ltZ-false : (a b : ℤ) → ltZ a b ≡ false → below a + above b ≤ above a + below b
 ltZ-false (pos a) (pos b) e = omega (arith, ltb-false a b e)
 ltZ-false (pos a) (negsuc b) e = omega arith
