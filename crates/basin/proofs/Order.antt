@@ -8,7 +8,7 @@ use lib.Signed.{nonNeg}
 use native.Mathlib.Omega.{arith}
 use borrow.Author.Tests.{leb-true}
 use Rattle.laws.specs.Sum.{every}
-use Rattle.laws.proofs.Every.{both, every-each, each-every}
+use Rattle.laws.proofs.Every.{both, every-each, each-every, every-same}
 use Rattle.model.specs.declared.Unit.{Unit}
 use Rattle.model.specs.declared.Aquifer.{Aquifer}
 use Rattle.model.specs.declared.Place.{Place}
@@ -29,13 +29,6 @@ same-truth : (a b : Bool) → (a ≡ true → b ≡ true) → (b ≡ true → a 
 same-truth true b f g = sym (f refl)
 same-truth false true f g = g refl
 same-truth false false f g = refl
-
--- Two tests that are the same at each place.
-every-same : (n : ℕ) (p q : ℕ → Bool) → ((k : ℕ) → k < n → p k ≡ q k) → every n p ≡ every n q
-every-same n p q e =
-    same-truth (every n p) (every n q)
-    (λ t. each-every q n (λ k h. sym (e k h) ∙ every-each p n t k h))
-    (λ t. each-every p n (λ k h. e k h ∙ every-each q n t k h))
 
 -- A test that is two at each place holds at every place exactly where each of the two does.
 every-both : (n : ℕ) (p q r : ℕ → Bool) → ((k : ℕ) → k < n → r k ≡ (p k && q k)) → every n r ≡ (every n p && every n q)
@@ -125,3 +118,9 @@ unfolding Sound.sound
 in-order v r e =
     e ∙ reordered (Sound.soundCounts v) (Sound.soundTitles v) (Sound.soundUnits v) (every (v .units) (Sound.coveredUnit v))
     (Sound.soundAquifers v) (every (v .aquifers) (Sound.coveredAquifer v)) (Sound.flowing v)
+
+-- The flows of a sound balance can be worked out.
+pub sound-workable : (v : View) → Sound.sound v ≡ true → Sound.workable v ≡ true
+sound-workable v e =
+    let p = both (Sound.soundCounts v) _ (in-order v (inOrder v) refl ∙ e) in
+    both-hold (Sound.soundCounts v) (Sound.entriesHold v) (p .0) (both (Sound.entriesHold v) (Sound.flowing v) (p .1) .0)

@@ -1,6 +1,7 @@
 -- The test for 0 (document 01, "What each operation refuses"): a call gives 0 if the balance handed to it is not sound. Assumes nothing.
 use Prim.Native.Nat.{ℕ, suc}
-use mathlib.Core.Bool.{Bool, not, _&&_, _||_}
+use mathlib.Core.Path.{_≡_}
+use mathlib.Core.Bool.{Bool, true, false, not, _&&_, _||_}
 use mathlib.Core.List.{List}
 use lib.Dec.{eqb, leb, ltb}
 use lib.IntN.{ℤ, pos, negℤ}
@@ -12,10 +13,13 @@ use Rattle.model.specs.declared.Aquifer.{Aquifer}
 use Rattle.model.specs.declared.Title.{Title}
 use Rattle.model.specs.declared.Title.the-variants.{UnitWithdrawal, AquiferWithdrawal, UnitTransfer, AquiferTransfer}
 use Rattle.model.specs.declared.Place.{Place}
+use Rattle.model.specs.declared.Balance.{Balance}
 use Rattle.model.specs.Fresh.{emptyUnit, emptyAquifer, emptyPlace}
-use Rattle.model.specs.View.{View}
+use Rattle.model.specs.View.{View, viewOf}
 use Rattle.model.specs.Limits.{unitLimit, aquiferLimit, titleLimit, termLimit}
 use Rattle.river.specs.Flow.{flow}
+use Rattle.river.specs.Passes.{Clear, Flows}
+use Rattle.river.specs.Units.{unitsView}
 use Rattle.river.specs.Wells.{recharge}
 use Rattle.titles.specs.Adds.{titled}
 use Rattle.titles.specs.declared.Slot.the-variants.{Extraction, Exports, Imports, Returns, WellExtraction}
@@ -130,6 +134,16 @@ partsView us n ws m ts given =
       given = given;
       place = λ k. getD ts k emptyPlace;
     }
+
+-- The counts and the entries of a balance hold: its flows can be worked out.
+abbrev pub workable : View → Bool
+workable v = soundCounts v && entriesHold v
+
+-- What the test leaves in the four arrays of the forward pass: what that gives, where the flows can be worked out, and otherwise 0 in
+-- every place.
+pub record ArraysLeft (b : Balance) (gained lost before arrived : List ℕ) : Type 0 where
+  pub passed : workable (viewOf b) ≡ true → Flows (unitsView (b .units) (b .«unit_count»)) gained lost before arrived
+  pub clear : workable (viewOf b) ≡ false → Clear gained lost before arrived
 
 -- No more is lost than gained at each of the first n units.
 abbrev pub balanced : ℕ → List ℕ → List ℕ → Bool

@@ -1,7 +1,7 @@
 // The balance: the test for 0 and the figures.
 mod cover;
 mod entries;
-mod places;
+pub mod places;
 pub mod reply;
 mod test;
 
@@ -9,8 +9,6 @@ use figures::AquiferFigures;
 use figures::UnitFigures;
 use model::Answer;
 use model::Balance;
-pub use places::exists;
-pub use places::is_volume;
 pub use test::sound;
 
 // The reply of reading the figures: the answer, and the figures of each unit and aquifer under its number less one.

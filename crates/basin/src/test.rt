@@ -1,12 +1,11 @@
 // The test for 0.
 ghost use mathlib.Core.Path.{_≡_};
-ghost use mathlib.Core.Bool.{true, _&&_};
+ghost use mathlib.Core.Bool.{_&&_};
 ghost use Prim.Native.Nat.{_≤_};
 ghost use lib.Dec.{leb};
 ghost use Rattle.model.specs.View.{viewOf};
 ghost use Rattle.model.specs.Limits.{unitLimit, aquiferLimit, titleLimit};
-ghost use Rattle.river.specs.Passes.{Clear, Flows};
-ghost use Rattle.river.specs.Units.{unitsView};
+ghost use Rattle.river.specs.Passes.{Clear};
 ghost use Rattle.basin.specs.Sound as sounds;
 use crate::cover::aquifers_hold;
 use crate::cover::units_hold;
@@ -99,8 +98,7 @@ pub fn tested(
 ) -> bool
     requires { ⌜ Clear (now gained) (now lost) (now before) (now arrived) ⌝ }
     ensures { λ r. ⌜ r ≡ sounds.sound (viewOf b) ⌝ }
-    ensures { λ r. ⌜ (r ≡ true → Flows (unitsView (b .units) (b .«unit_count»))
-        (now (gained .exit)) (now (lost .exit)) (now (before .exit)) (now (arrived .exit))) ⌝ }
+    ensures { λ _. ⌜ sounds.ArraysLeft b (now (gained .exit)) (now (lost .exit)) (now (before .exit)) (now (arrived .exit)) ⌝ }
 {
     let n = b.unit_count;
     let m = b.aquifer_count;

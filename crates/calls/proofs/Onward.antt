@@ -1,6 +1,6 @@
 -- A call's record leaves its own offset behind and stays within the book, so the allowance of records never runs out. Assumes nothing.
 use Prim.Native.Nat.{ℕ, zero, suc, _+_, _-_, _≤_, _<_}
-use mathlib.Core.Path.{_≡_, refl, sym, ap, subst, _∙_}
+use mathlib.Core.Path.{_≡_, refl, ap, subst}
 use mathlib.Core.List.{List, _∷_}
 use lib.ListN.{length}
 use native.Mathlib.Omega.{arith}
@@ -12,7 +12,7 @@ use Rattle.record.specs.declared.CallMark.the-variants.{Gu, Ga, Tu, Ta, Ca, Non
 use Rattle.record.specs.declared.CallAt.{CallAt}
 use Rattle.record.specs.declared.CallAt.the-variants.{End, Fails, Asks}
 use Rattle.record.specs.Bytes.{bits8}
-use Rattle.record.specs.Calls.{callMark, wholeCall, callMarked, callAt, Ending, callsFrom, endingFrom, callsOf, endingOf}
+use Rattle.record.specs.Calls.{callMark, wholeCall, callMarked, callAt, callsFrom, endingFrom, callsOf, endingOf}
 
 abbrev Onward : List ℕ → ℕ → CallAt → Type 0
 Onward s at End = Unit {0}

@@ -30,8 +30,9 @@ use Rattle.basin.specs.Sound.{sound, flowing}
 use Rattle.reach.specs.Reach.{belowTo, liesBelow, outletTo, outlet}
 use Rattle.book.specs.declared.Opened.{Opened}
 use Rattle.book.specs.Reading.{readingFrom, opened}
+use Rattle.record.specs.Calls.{callAt, callsFrom, callsOf, endingFrom, endingOf}
 use Rattle.record.specs.Entries.{entryAt}
-use Rattle.record.specs.Calls.{finished, callAt, callsFrom, callsOf, endingFrom, endingOf}
+use Rattle.record.specs.declared.Ending.the-variants.{Finished}
 use Rattle.book.proofs.Promises.{opening-sound}
 use Rattle.effect.specs.Granted.{granted}
 use Rattle.refusal.specs.Grant.{noWater}
@@ -154,7 +155,7 @@ pub calls-are : callsOf printedBook 379 ≡ theCalls
 unfolding printedBook printedDescription printedCalls callsFrom callAt
 calls-are = refl
 
-pub ending-is : endingOf printedBook 379 ≡ finished
+pub ending-is : endingOf printedBook 379 ≡ Finished
 unfolding printedBook printedDescription printedCalls endingFrom callAt
 ending-is = refl
 

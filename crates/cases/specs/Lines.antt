@@ -14,11 +14,10 @@ use Rattle.model.specs.View.{viewOf}
 use Rattle.river.specs.Flow.{flow}
 use Rattle.river.specs.Reserve.{committedTo, committed}
 use Rattle.book.specs.declared.Opened.{Opened}
-use Rattle.record.specs.Calls.{finished}
+use Rattle.record.specs.declared.Ending.the-variants.{Finished}
 use Rattle.register.specs.declared.Reply.{Reply}
 use Rattle.register.specs.Reply.{grantReply}
 use Rattle.register.specs.Calls.{after}
-use Rattle.calls.specs.Running.{ranAs}
 use Rattle.text.specs.Text.{ascii, decimalBelow, decimal, signed}
 use Rattle.report.specs.Lines.{unitLine, aquiferLine, callGiven, callRefused}
 use Rattle.listing.specs.Listing.{linesOf, tableText, callText, callLines, ranText, runText, printed}
@@ -76,6 +75,6 @@ pub printed-is : printed printedBook ≡ callsText ++ figuresText
 printed-is =
     sym (printed-accepted printedBook short (ap (λ (o : Opened). o .answer) printed-opens))
     ∙ ap (λ (o : Opened). runText printedBook (o .place) (o .balance)) printed-opens
-    ∙ (λ i. callLines 1 printedBalance (calls-are i) ++ ranText (ranAs (ending-is i) (after printedBalance (calls-are i))))
-    ∙ (λ i. runs .lines i ++ ranText (ranAs finished (runs .leave i)))
+    ∙ (λ i. callLines 1 printedBalance (calls-are i) ++ ranText (ending-is i) (after printedBalance (calls-are i)))
+    ∙ (λ i. runs .lines i ++ ranText Finished (runs .leave i))
     ∙ ap (λ (l : List ℕ). callsText ++ l) table-lines

@@ -1,6 +1,6 @@
 -- How the replies of the calls under a dashboard's make its table. Assumes nothing.
-use Prim.Native.Nat.{ℕ, zero, suc, _+_, _*_, _≤_}
-use mathlib.Core.Path.{_≡_, refl, sym, ap, _∙_}
+use Prim.Native.Nat.{ℕ, _+_, _*_, _≤_}
+use mathlib.Core.Path.{_≡_, sym, ap, _∙_}
 use mathlib.Core.Bool.{Bool}
 use mathlib.Core.List.{List}
 use native.Mathlib.Nat.{suc-mul}
@@ -14,6 +14,7 @@ use Rattle.basin.specs.declared.Figures.{Figures}
 use Rattle.basin.specs.Figures.{figuresReply}
 use Rattle.book.specs.declared.Opened.{Opened}
 use Rattle.book.specs.Reading.{opened}
+use Rattle.record.specs.declared.Ending.{Ending}
 use Rattle.calls.specs.declared.Ran.{Ran}
 use Rattle.dashboard.specs.declared.Table.{Table}
 use Rattle.dashboard.specs.Table.{tableOf, tableBy, tableAfter, openedTable, bookTable, balanceBy, balanceAfter, counted, figured}
@@ -41,9 +42,9 @@ table-is accepted number place b f e = λ i.
       aquifers = e i .aquifers;
     }
 
--- By the answer that running the calls, or opening the book, gave.
-pub after-is : (r : Ran) (a : Answer) (t : Table) → r .answer ≡ a → t ≡ tableBy a (r .place) (r .balance) → t ≡ tableAfter r
-after-is r a t e q = q ∙ ap (λ (x : Answer). tableBy x (r .place) (r .balance)) (sym e)
+-- By how the calls end, or by the answer that opening the book gave.
+pub after-is : (r : Ran) (x : Ending) (t : Table) → r .ending ≡ x → t ≡ tableBy x (r .balance) → t ≡ tableAfter r
+after-is r x t e q = q ∙ ap (λ (y : Ending). tableBy y (r .balance)) (sym e)
 
 pub opened-is : (s : List ℕ) (o : Opened) (a : Answer) (t : Table) → o ≡ opened s → o .answer ≡ a → t ≡ openedTable s a (o .place) (o .balance)
     → t ≡ bookTable s

@@ -8,6 +8,8 @@ use Rattle.model.specs.declared.Balance.{Balance}
 use Rattle.model.specs.View.{viewOf}
 use Rattle.basin.specs.Figures.{figuresReply}
 use Rattle.book.specs.Reading.{opened}
+use Rattle.record.specs.declared.Ending.{Ending}
+use Rattle.record.specs.declared.Ending.the-variants.{Finished, Failed}
 use Rattle.calls.specs.declared.Ran.{Ran}
 use Rattle.calls.specs.Running.{ran}
 use Rattle.dashboard.specs.declared.Table.{Table}
@@ -26,12 +28,12 @@ tableOf accepted number place b =
     }
 
 -- The table after the calls: the number and place of the record that failed, 0 if none did.
-abbrev pub tableBy : Answer → ℕ → Balance → Table
-tableBy Accepted place b = tableOf true 0 place b
-tableBy (Refused n) place b = tableOf true n place b
+abbrev pub tableBy : Ending → Balance → Table
+tableBy Finished b = tableOf true 0 0 b
+tableBy (Failed n place) b = tableOf true n place b
 
 abbrev pub tableAfter : Ran → Table
-tableAfter r = tableBy (r .answer) (r .place) (r .balance)
+tableAfter r = tableBy (r .ending) (r .balance)
 
 -- A refused description has its number and place, and the figures of the fresh balance, which are all 0.
 abbrev pub openedTable : List ℕ → Answer → ℕ → Balance → Table

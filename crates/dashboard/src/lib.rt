@@ -10,6 +10,7 @@ use figures::AquiferFigures;
 use figures::UnitFigures;
 use model::Answer;
 use model::Balance;
+use record::Ending;
 use report::ROOM;
 
 // The table of a book after its calls: whether its description was accepted, the number and place of a refusal or of a call record that
@@ -57,12 +58,11 @@ fn table_of(accepted: bool, number: u8, place: usize, b: Balance) -> Table
 fn table_after(ran: Ran) -> Table
     ensures { λ r. ⌜ r ≡ tables.tableAfter ran ⌝ }
 {
-    let answer = ran.answer;
-    let place = ran.place;
+    let ending = ran.ending;
     let balance = ran.balance;
-    match answer {
-        Answer::Accepted => table_of(true, 0, place, balance),
-        Answer::Refused(number) => table_of(true, number, place, balance),
+    match ending {
+        Ending::Finished => table_of(true, 0, 0, balance),
+        Ending::Failed { number, place } => table_of(true, number, place, balance),
     }
 }
 
@@ -76,7 +76,7 @@ pub extern "C" fn hasheqro_figures(book: &[u8]) -> Table
     let place = o.place;
     let balance = o.balance;
     match answer {
-        Answer::Accepted => table_after(calls::run_tested(book, place, balance, true)),
+        Answer::Accepted => table_after(calls::run(book, place, balance)),
         Answer::Refused(number) => table_of(false, number, place, balance),
     }
 }
@@ -100,7 +100,7 @@ fn balance_after(book: &[u8]) -> Balance
     let balance = o.balance;
     match answer {
         Answer::Accepted => {
-            let ran = calls::run_tested(book, place, balance, true);
+            let ran = calls::run(book, place, balance);
             ran.balance
         }
         Answer::Refused(_) => balance,

@@ -37,13 +37,14 @@ figures-from v j g l a c x eg el ea ec e =
     e ∙ (λ i. figuresFrom (v .unit j) (eg i) (el i) (ea i) (ec i)) ∙ figures-are v j
 
 -- The figures over the units of a view alone are those over the view.
-pub figures-alone : (v : View) → allUnitFigures (alone v) ≡ allUnitFigures v
-figures-alone v = λ i.
-    table 64 noUnitFigures (v .units)
-    (λ j.
+pub unit-figures-alone : (v : View) (j : ℕ) → unitFigures (alone v) j ≡ unitFigures v j
+unit-figures-alone v j = λ i.
     record {
       flow = flow-alone v j i;
       committed = committed-alone v j i;
       reserve = reserve-alone v j i;
       availability = flow-alone v j i -ℤ pos (committed-alone v j i);
-    })
+    }
+
+pub figures-alone : (v : View) → allUnitFigures (alone v) ≡ allUnitFigures v
+figures-alone v = λ i. table 64 noUnitFigures (v .units) (λ j. unit-figures-alone v j i)

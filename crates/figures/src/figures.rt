@@ -75,6 +75,19 @@ pub fn unit_figures<'a>(
     all
 }
 
+// The figures of each of n units.
+pub fn of_units(units: [Unit; Balance::UNITS], n: usize) -> [UnitFigures; Balance::UNITS]
+    requires { ⌜ Ready (unitsView units n) ⌝ }
+    ensures { λ r. ⌜ r ≡ figures.allUnitFigures (unitsView units n) ⌝ }
+{
+    let mut gained = [0u64; Balance::UNITS];
+    let mut lost = [0u64; Balance::UNITS];
+    let mut before = [0u64; Balance::UNITS];
+    let mut arrived = [0u64; Balance::UNITS];
+    river::flow_amounts(units, n, &mut gained, &mut lost, &mut before, &mut arrived);
+    unit_figures(units, n, &gained, &lost, &before, &arrived)
+}
+
 // An aquifer's recharge and availability, from what it gains and what it loses.
 pub fn of_aquifer(a: Aquifer) -> AquiferFigures
     requires { ⌜ (above (a .storage) ≤ termLimit) × (below (a .storage) ≤ termLimit) ⌝ }

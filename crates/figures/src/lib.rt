@@ -3,6 +3,7 @@ mod figures;
 
 pub use figures::aquifer_figures;
 pub use figures::of_aquifer;
+pub use figures::of_units;
 pub use figures::unit_figures;
 
 // The four figures of a unit.

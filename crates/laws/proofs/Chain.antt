@@ -64,7 +64,7 @@ is-true t e = sym e
 pub is-false : (t : Bool) → t ≡ false → false ≡ t
 is-false t e = sym e
 
--- A conjunction and a disjunction of tests.
+-- A conjunction of tests.
 pub t-and : (t u : Bool) → t ≡ true → u ≡ true → t && u ≡ true
 t-and t u e q = rw e q
 
@@ -73,15 +73,6 @@ f-and t u e = rw e
 
 pub f-and-on : (t u : Bool) → t ≡ true → u ≡ false → t && u ≡ false
 f-and-on t u e q = rw e q
-
-pub t-or : (t u : Bool) → t ≡ true → t || u ≡ true
-t-or t u e = rw e
-
-pub t-or-on : (t u : Bool) → t ≡ false → u ≡ true → t || u ≡ true
-t-or-on t u e q = rw e q
-
-pub f-or : (t u : Bool) → t ≡ false → u ≡ false → t || u ≡ false
-f-or t u e q = rw e q
 
 pub ruleset chain = (hit, miss, t-lt, f-lt, t-le, f-le, t-eq, f-eq, t-of, f-of)
 

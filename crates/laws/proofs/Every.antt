@@ -33,3 +33,9 @@ module _ (t : ℕ → Bool) where
   -- One place at which it fails is enough.
   pub every-fails : (n k : ℕ) → k < n → t k ≡ false → every n t ≡ false
   every-fails n k h e = by-bool (every n t) (λ q. absurd (true≢false (sym (every-each n q k h) ∙ e))) (λ q. q)
+
+-- Two tests that are the same at each place.
+pub every-same : (n : ℕ) (p q : ℕ → Bool) → ((k : ℕ) → k < n → p k ≡ q k) → every n p ≡ every n q
+unfolding every
+every-same zero p q e = refl
+every-same (suc n) p q e = λ i. every-same n p q (λ k h. e k (omega arith)) i && e n (omega arith) i

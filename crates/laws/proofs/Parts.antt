@@ -1,23 +1,23 @@
 -- Integers by their two natural parts, above and below 0, so that `omega` can work with them. Assumes nothing.
 --     plus-parts, minus-parts, negate-parts     the parts of a sum, a difference and a negative
---     plus-parts-of, minus-parts-of             the same of a number that equals a sum or a difference
+--     minus-parts-of                            the same of a number that equals a difference
 --     equal-parts, parts-equal                  equality as an equation of parts, and back
---     le-parts, parts-le, lt-parts, parts-lt    the orders ≤ℤ and <ℤ
---     ltZ-true .. parts-negative                the tests ltZ, leZ and nonNeg
---     parts-fit, fit-parts                      what 64 bits hold
+--     le-parts, parts-le                        the order ≤ℤ
+--     ltZ-false .. parts-negative               the tests ltZ, leZ and nonNeg
+--     parts-fit                                 what 64 bits hold
 --     above-read, below-read                    the parts that the code reads from a signed local
 --     Less z a b                                z is a − b: built up over a long sum, and read off at its end
--- A rule with a premise goes to `omega` by its bare name, `omega (arith, ltZ-true)`; one without wants its arguments.
+-- A rule with a premise goes to `omega` by its bare name, `omega (arith, nonNeg-true)`; one without wants its arguments.
 use Prim.Native.Nat.{ℕ, zero, suc, _+_, _-_, _≤_, _<_, _^_}
 use mathlib.Core.Path.{_≡_, refl, sym, ap, _∙_}
 use mathlib.Core.Bool.{Bool, true, false, true≢false}
 use lib.Dec.{T}
 use lib.IntN.{ℤ, pos, negsuc, subℕ, negℤ, _+ℤ_, _-ℤ_}
-use lib.Signed.{ltZ, leZ, nonNeg, _≤ℤ_, _<ℤ_}
+use lib.Signed.{ltZ, leZ, nonNeg, _≤ℤ_}
 use mir.Syntax.{w64}
 use mir.Val.{SFits, toZ, ofZ}
 use native.Mathlib.Omega.{arith}
-use borrow.Author.Tests.{ltb-true, ltb-false, leb-true, leb-false, lt-ltb, le-ltb, le-leb, lt-leb}
+use borrow.Author.Tests.{ltb-false, leb-true, lt-ltb, le-ltb, le-leb}
 use Rattle.laws.specs.Signed.{above, below, Roomy}
 use Rattle.laws.proofs.Cases.{by-lt}
 use Rattle.laws.proofs.Signs.{subℕ-lt, subℕ-le, whole}
@@ -47,9 +47,6 @@ negate-parts (negsuc n) = (refl, refl)
 pub minus-parts : (a b : ℤ) → above (a -ℤ b) + below a + above b ≡ below (a -ℤ b) + above a + below b
 minus-parts a b = omega (arith, plus-parts a (negℤ b), negate-parts b .0, negate-parts b .1)
 
-pub plus-parts-of : (r a b : ℤ) → r ≡ a +ℤ b → above r + below a + below b ≡ below r + above a + above b
-plus-parts-of r a b e = rw e (plus-parts a b)
-
 pub minus-parts-of : (r a b : ℤ) → r ≡ a -ℤ b → above r + below a + above b ≡ below r + above a + below b
 minus-parts-of r a b e = rw e (minus-parts a b)
 
@@ -63,21 +60,7 @@ parts-equal (pos a) (negsuc b) e = absurd (omega arith)
 parts-equal (negsuc a) (pos b) e = absurd (omega arith)
 parts-equal (negsuc a) (negsuc b) e = ap negsuc (omega arith)
 
--- A number is the difference of its parts, and the natural number above 0 where nothing lies below.
-pub parts-whole : (z : ℤ) → z ≡ pos (above z) -ℤ pos (below z)
-parts-whole z = parts-equal z (pos (above z) -ℤ pos (below z)) (omega (arith, minus-parts (pos (above z)) (pos (below z))))
-
-pub parts-pos : (z : ℤ) → below z ≡ 0 → z ≡ pos (above z)
-parts-pos (pos n) e = refl
-parts-pos (negsuc n) e = absurd (omega arith)
-
 -- The orders.
-pub ltZ-true : (a b : ℤ) → ltZ a b ≡ true → above a + below b < below a + above b
-ltZ-true (pos a) (pos b) e = omega (arith, ltb-true a b e)
-ltZ-true (pos a) (negsuc b) e = absurd (true≢false (sym e))
-ltZ-true (negsuc a) (pos b) e = omega arith
-ltZ-true (negsuc a) (negsuc b) e = omega (arith, ltb-true b a e)
-
 pub ltZ-false : (a b : ℤ) → ltZ a b ≡ false → below a + above b ≤ above a + below b
 ltZ-false (pos a) (pos b) e = omega (arith, ltb-false a b e)
 ltZ-false (pos a) (negsuc b) e = omega arith
@@ -89,12 +72,6 @@ leZ-true (pos a) (pos b) e = omega (arith, leb-true a b e)
 leZ-true (pos a) (negsuc b) e = absurd (true≢false (sym e))
 leZ-true (negsuc a) (pos b) e = omega arith
 leZ-true (negsuc a) (negsuc b) e = omega (arith, leb-true b a e)
-
-pub leZ-false : (a b : ℤ) → leZ a b ≡ false → below a + above b < above a + below b
-leZ-false (pos a) (pos b) e = omega (arith, leb-false a b e)
-leZ-false (pos a) (negsuc b) e = omega arith
-leZ-false (negsuc a) (pos b) e = absurd (true≢false e)
-leZ-false (negsuc a) (negsuc b) e = omega (arith, leb-false b a e)
 
 -- and back: what the tests say of numbers whose parts are in order.
 pub parts-ltZ : (a b : ℤ) → above a + below b < below a + above b → ltZ a b ≡ true
@@ -115,12 +92,6 @@ parts-leZ (pos a) (negsuc b) h = absurd (omega arith)
 parts-leZ (negsuc a) (pos b) h = refl
 parts-leZ (negsuc a) (negsuc b) h = le-leb b a (omega arith)
 
-pub parts-not-leZ : (a b : ℤ) → below a + above b < above a + below b → leZ a b ≡ false
-parts-not-leZ (pos a) (pos b) h = lt-leb a b (omega arith)
-parts-not-leZ (pos a) (negsuc b) h = refl
-parts-not-leZ (negsuc a) (pos b) h = absurd (omega arith)
-parts-not-leZ (negsuc a) (negsuc b) h = lt-leb b a (omega arith)
-
 holds : (t : Bool) → t ≡ true → T t
 holds true e = tt
 holds false e = absurd (true≢false (sym e))
@@ -134,12 +105,6 @@ le-parts a b h = leZ-true a b (held (leZ a b) (h .le))
 
 pub parts-le : (a b : ℤ) → above a + below b ≤ below a + above b → a ≤ℤ b
 parts-le a b h = record { le = holds (leZ a b) (parts-leZ a b h) }
-
-pub lt-parts : (a b : ℤ) → a <ℤ b → above a + below b < below a + above b
-lt-parts a b h = ltZ-true a b (held (ltZ a b) (h .lt))
-
-pub parts-lt : (a b : ℤ) → above a + below b < below a + above b → a <ℤ b
-parts-lt a b h = record { lt = holds (ltZ a b) (parts-ltZ a b h) }
 
 -- Not negative.
 pub nonNeg-true : (z : ℤ) → nonNeg z ≡ true → below z ≡ 0
@@ -162,10 +127,6 @@ parts-negative (negsuc n) h = refl
 pub parts-fit : (z : ℤ) → above z < 2 ^ 63 → below z ≤ 2 ^ 63 → SFits w64 z
 parts-fit (pos n) a b = record { sfits = omega arith }
 parts-fit (negsuc n) a b = record { sfits = omega arith }
-
-pub fit-parts : (z : ℤ) → SFits w64 z → (above z < 2 ^ 63) × (below z ≤ 2 ^ 63)
-fit-parts (pos n) f = (omega (arith, f .sfits), omega arith)
-fit-parts (negsuc n) f = (omega arith, omega (arith, f .sfits))
 
 -- What `laws::above` and `laws::below` give of a signed local, which holds the bits of z.
 pub above-read : {r : ℕ} (z : ℤ) → SFits w64 z → r ≡ above (toZ w64 (ofZ w64 z)) → r ≡ above z

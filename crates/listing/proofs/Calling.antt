@@ -10,16 +10,19 @@ use Rattle.model.specs.declared.Answer.{Answer}
 use Rattle.model.specs.declared.Answer.the-variants.{Accepted, Refused}
 use Rattle.model.specs.declared.Balance.{Balance}
 use Rattle.record.specs.declared.CallAt.the-variants.{End, Fails, Asks}
+use Rattle.record.specs.declared.Ending.{Ending}
 use Rattle.record.specs.Calls.{callAt, callsFrom, callsOf}
 use Rattle.register.specs.Calls.{callReply, callNumber}
 use Rattle.register.proofs.Keeping.{refused-keeps, accepted-number}
+use Rattle.calls.specs.declared.Ran.{Ran}
 use Rattle.calls.specs.Running.{ran}
-use Rattle.calls.proofs.Running.{rest, turn-asks}
+use Rattle.calls.proofs.Running.{rest, ended, turn-asks}
 use Rattle.calls.proofs.Onward.{asks-onward}
 use Rattle.report.specs.Lines.{callRefused}
 use Rattle.text.specs.Text.{Written}
 use Rattle.text.proofs.Writing.{then, widen, restate, still}
 use Rattle.listing.specs.Listing.{acceptedText, callText, callLines}
+use Rattle.listing.specs.Printing.{Printed}
 
 -- The lines of the calls that are left after k calls.
 abbrev pub linesLeft : ℕ → ℕ → List ℕ → ℕ → Balance → List ℕ
@@ -123,3 +126,14 @@ module _ (s : List ℕ) (from : ℕ) (start : Balance) (old : List ℕ) (p₀ : 
   printing-refused left c to new q a n m f g r h i e w =
       subst (λ (x : Balance). Printing s from start old p₀ new q x to (k + 1) (left - 1)) (refused-keeps b c m (sym f ∙ r) .0)
       (printing-answered left c to new q a n f g h i e w)
+
+-- With all call lines written, what running the calls gives is what printing them promises.
+pub printed-so : (s : List ℕ) (from : ℕ) (start : Balance) {first old out : List ℕ} {p₀ p m : ℕ} {e : Ending} {b : Balance}
+    → Written 0 first 0 [] old p₀ → Written m old p₀ (callLines 1 start (callsOf s from)) out p → m ≤ 1048576
+    → ended e b ≡ ran s from start → Printed s from start first out (record { next = p; ending = e; balance = b })
+printed-so s from start none w few same =
+    record {
+      lines = widen (then none w) (omega arith);
+      ending = ap (λ (r : Ran). r .ending) same;
+      balance = ap (λ (r : Ran). r .balance) same;
+    }

@@ -10,7 +10,7 @@ use Rattle.laws.proofs.Cases.{by-bool}
 use Rattle.laws.proofs.Arrays.{getD-table}
 use Rattle.model.specs.declared.Answer.{Answer}
 use Rattle.model.specs.declared.Answer.the-variants.{Accepted, Refused}
-use Rattle.model.specs.View.{View, viewOf}
+use Rattle.model.specs.View.{View}
 use Rattle.figures.specs.declared.UnitFigures.{UnitFigures}
 use Rattle.figures.specs.declared.AquiferFigures.{AquiferFigures}
 use Rattle.figures.specs.Figures.{unitFigures, noUnitFigures, allUnitFigures, aquiferFigures, noAquiferFigures, allAquiferFigures}
@@ -22,8 +22,8 @@ use Rattle.report.specs.Lines.{refusedLine}
 use Rattle.listing.specs.Listing.{linesOf, unitText, aquiferText, tableText, runText, answerText, printed}
 
 -- A reply is accepted exactly when the balance is sound.
-pub accepted-sound : (v : View) → figuresReply v .answer ≡ Accepted → sound v ≡ true
-accepted-sound v e = by-bool (sound v) (λ q. q) (λ q. let z : Refused 0 ≡ Accepted = rw q at e in let w : _≡_ {A = ℕ} 0 1 = cc in absurd (omega arith))
+pub figures-sound : (v : View) → figuresReply v .answer ≡ Accepted → sound v ≡ true
+figures-sound v e = by-bool (sound v) (λ q. q) (λ q. let z : Refused 0 ≡ Accepted = rw q at e in let w : _≡_ {A = ℕ} 0 1 = cc in absurd (omega arith))
 
 pub refused-unsound : (v : View) (n : ℕ) → figuresReply v .answer ≡ Refused n → sound v ≡ false
 refused-unsound v n e = by-bool (sound v) (λ q. let z : Accepted ≡ Refused n = rw q at e in let w : _≡_ {A = ℕ} 0 1 = cc in absurd (omega arith)) (λ q. q)

@@ -15,10 +15,10 @@ use Rattle.figures.specs.declared.AquiferFigures.{AquiferFigures}
 use Rattle.figures.specs.Figures.{unitFigures, aquiferFigures}
 use Rattle.basin.specs.Sound.{sound}
 use Rattle.book.specs.Reading.{opened}
-use Rattle.record.specs.Calls.{callsOf}
-use Rattle.register.specs.Calls.{callReply}
-use Rattle.calls.specs.declared.Ran.{Ran}
-use Rattle.calls.specs.Running.{ran}
+use Rattle.record.specs.declared.Ending.{Ending}
+use Rattle.record.specs.declared.Ending.the-variants.{Finished, Failed}
+use Rattle.record.specs.Calls.{callsOf, endingOf}
+use Rattle.register.specs.Calls.{callReply, after}
 use Rattle.report.specs.Lines.{unitLine, aquiferLine, refusedLine, callGiven, callRefused, callCancelled}
 
 -- The lines of n places, one after the other.
@@ -57,17 +57,17 @@ callLines k b (c ∷ cs) =
     callText k c (callReply b c .answer) (callReply b c .number) ++ callLines (suc k) (callReply b c .balance) cs
 
 -- A call record failing with 1 or 2 prints `refused N at P`.
-abbrev pub endText : Answer → ℕ → List ℕ
-endText Accepted place = []
-endText (Refused n) place = refusedLine n place
+abbrev pub endText : Ending → List ℕ
+endText Finished = []
+endText (Failed n place) = refusedLine n place
 
 -- What follows the call lines: the line of a record that failed, then the table after the calls.
-abbrev pub ranText : Ran → List ℕ
-ranText r = endText (r .answer) (r .place) ++ tableText (viewOf (r .balance))
+abbrev pub ranText : Ending → Balance → List ℕ
+ranText e b = endText e ++ tableText (viewOf b)
 
 -- Call lines come first.
 abbrev pub runText : List ℕ → ℕ → Balance → List ℕ
-runText s at b = callLines 1 b (callsOf s at) ++ ranText (ran s at b)
+runText s at b = callLines 1 b (callsOf s at) ++ ranText (endingOf s at) (after b (callsOf s at))
 
 -- An accepted description prints its calls and its table, a refused one only `refused N at P`.
 abbrev pub answerText : List ℕ → Answer → ℕ → Balance → List ℕ

@@ -1,6 +1,5 @@
 // What the program prints for a book, put into a lent buffer.
 ghost use mathlib.Core.Path.{_≡_};
-ghost use mathlib.Core.List.{_++_};
 ghost use Prim.Native.Nat.{_+_, _≤_};
 ghost use lib.ListN.{length, getD};
 ghost use mathlib.Core.Bool.{true};
@@ -12,13 +11,13 @@ ghost use Rattle.text.specs.Text.{Written};
 ghost use Rattle.listing.specs.Listing as text;
 ghost use Rattle.listing.specs.Printing as printing;
 use basin::reply::figures;
-use calls::Ran;
 use figures::AquiferFigures;
 use figures::UnitFigures;
 use model::Answer;
 use model::Balance;
 use model::Call;
 use record::CallAt;
+use record::Ending;
 use report::ROOM;
 
 // The lines of the first n units.
@@ -138,10 +137,11 @@ fn call_line(
     }
 }
 
-// The position past the call lines, and what running the calls gave.
+// The position past the call lines, how the calls end, and the balance after them.
 struct Lines {
     next: usize,
-    ran: Ran,
+    ending: Ending,
+    balance: Balance,
 }
 
 // Runs the calls of a book over a sound balance and puts a line for each into the buffer.
@@ -160,24 +160,26 @@ fn call_lines(s: &[u8], from: usize, balance: Balance, out: &mut [u8; ROOM]) -> 
             CallAt::End => {
                 return Lines {
                     next: p,
-                    ran: calls::finished(b),
+                    ending: Ending::Finished,
+                    balance: b,
                 };
             }
             CallAt::Fails { number } => {
                 return Lines {
                     next: p,
-                    ran: calls::failed(number, at, b),
+                    ending: Ending::Failed { number, place: at },
+                    balance: b,
                 };
             }
             CallAt::Asks { call, to } => {
-                let answer = register::decide(b, true, call);
-                let number = register::number_of(b.given, call);
+                let answer = register::decision::decide(b, true, call);
+                let number = register::outcome::number_of(b.given, call);
                 k += 1;
                 p = call_line(out, p, k, call, answer, number);
                 at = to;
                 match answer {
                     Answer::Accepted => {
-                        b = register::perform(b, call);
+                        b = register::outcome::perform(b, call);
                     }
                     Answer::Refused(_) => {}
                 }
@@ -186,30 +188,36 @@ fn call_lines(s: &[u8], from: usize, balance: Balance, out: &mut [u8; ROOM]) -> 
     }
     Lines {
         next: p,
-        ran: calls::failed(1, at, b),
+        ending: Ending::Failed {
+            number: 1,
+            place: at,
+        },
+        balance: b,
     }
 }
 
 // The line of a record that failed, if one did.
-fn end_line(out: &mut [u8; ROOM], at: usize, answer: Answer, place: usize) -> usize
+fn end_line(out: &mut [u8; ROOM], at: usize, ending: Ending) -> usize
     requires { ⌜ at + 128 ≤ 1064960 ⌝ }
-    ensures { λ r. ⌜ Written 128 (now (out .entry)) at (text.endText answer place) (now (out .exit)) r ⌝ }
+    ensures { λ r. ⌜ Written 128 (now (out .entry)) at (text.endText ending) (now (out .exit)) r ⌝ }
 {
-    match answer {
-        Answer::Accepted => report::no_line(out, at),
-        Answer::Refused(number) => report::refused_line(out, at, number as u64, place as u64),
+    match ending {
+        Ending::Finished => report::no_line(out, at),
+        Ending::Failed { number, place } => report::refused_line(
+            out,
+            at,
+            number as u64,
+            place as u64,
+        ),
     }
 }
 
 // What follows the call lines: the line of a record that failed, then the table.
-fn ran_lines(out: &mut [u8; ROOM], at: usize, ran: Ran) -> usize
+fn ran_lines(out: &mut [u8; ROOM], at: usize, ending: Ending, balance: Balance) -> usize
     requires { ⌜ at + 12416 ≤ 1064960 ⌝ }
-    ensures { λ r. ⌜ Written 12416 (now (out .entry)) at (text.ranText ran) (now (out .exit)) r ⌝ }
+    ensures { λ r. ⌜ Written 12416 (now (out .entry)) at (text.ranText ending balance) (now (out .exit)) r ⌝ }
 {
-    let answer = ran.answer;
-    let place = ran.place;
-    let balance = ran.balance;
-    let p = end_line(out, at, answer, place);
+    let p = end_line(out, at, ending);
     table(out, p, balance)
 }
 
@@ -219,8 +227,9 @@ fn run_lines(s: &[u8], from: usize, balance: Balance, out: &mut [u8; ROOM]) -> u
     ensures { λ r. ⌜ Written 1064960 (now (out .entry)) 0 (text.runText (now (s .entry)) from balance) (now (out .exit)) r ⌝ }
 {
     let lines = call_lines(s, from, balance, out);
-    let ran = lines.ran;
-    ran_lines(out, lines.next, ran)
+    let ending = lines.ending;
+    let after = lines.balance;
+    ran_lines(out, lines.next, ending, after)
 }
 
 // What is printed for a book: its bytes from the start of the buffer on, and their number.

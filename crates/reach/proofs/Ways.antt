@@ -51,25 +51,19 @@ outlet-next v r j h e = to-longer v r (v .units) (suc (v .units)) j h (omega ari
 pub upstream-same : (v : View) → Ready v → (k j : ℕ) → k < v .units → downstream v k ≡ suc j → outlet v k ≡ outlet v j
 upstream-same v r k j h e = outlet-next v r k h (omega arith) ∙ ap (λ (d : ℕ). outlet v (pred d)) e
 
--- What holds of every outlet of the balance holds of each unit's outlet.
-to-reaches : (v : View) → Ready v → (P : ℕ → Type 0) → ((k : ℕ) → k < v .units → downstream v k ≡ 0 → P k)
-    → (way j : ℕ) → j < v .units → v .units ≤ way + j → P (outletTo v way j)
-to-reaches v r P p zero j h q = absurd (omega arith)
-to-reaches v r P p (suc way) j h q =
+-- A unit's outlet drains nowhere.
+to-drains : (v : View) → Ready v → (way j : ℕ) → j < v .units → v .units ≤ way + j → downstream v (outletTo v way j) ≡ 0
+to-drains v r zero j h q = absurd (omega arith)
+to-drains v r (suc way) j h q =
     by-eq (downstream v j) 0
-    (λ e. rw (to-self v (suc way) j e) (p j h e))
+    (λ e. rw (to-self v (suc way) j e) e)
     (λ e.
     let b = below-of v r j h e in
-    rw (to-next v way j e) (to-reaches v r P p way (pred (downstream v j)) (b .within) (omega (arith, b .later))))
-
--- A unit's outlet is a unit of the balance and an outlet.
-pub outlet-within : (v : View) → Ready v → (j : ℕ) → j < v .units → outlet v j < v .units
-unfolding outlet
-outlet-within v r j h = to-reaches v r (λ k. k < v .units) (λ k g e. g) (v .units) j h (omega arith)
+    rw (to-next v way j e) (to-drains v r way (pred (downstream v j)) (b .within) (omega (arith, b .later))))
 
 pub outlet-drains : (v : View) → Ready v → (j : ℕ) → j < v .units → downstream v (outlet v j) ≡ 0
 unfolding outlet
-outlet-drains v r j h = to-reaches v r (λ k. downstream v k ≡ 0) (λ k g e. e) (v .units) j h (omega arith)
+outlet-drains v r j h = to-drains v r (v .units) j h (omega arith)
 
 -- Which units lie below, by downstream numbers and along a way of any length.
 module _ (down : ℕ → ℕ) where
@@ -215,7 +209,7 @@ to-lower v r (suc f) u w h t =
 pub below-outlet : (v : View) → Ready v → (u w : ℕ) → u < v .units → liesBelow v u w ≡ true → Lower v u w
 below-outlet v r u w h t = to-lower v r (v .units) u w h (sym (below-by v u w) ∙ t)
 
--- Two views with the same downstream numbers have the same outlets, and the same units lie below.
+-- Two views with the same downstream numbers have the same outlets.
 to-same : (v w : View) → Ready v → ((k : ℕ) → k < v .units → downstream w k ≡ downstream v k)
     → (f j : ℕ) → j < v .units → outletTo w f j ≡ outletTo v f j
 unfolding outletTo
@@ -235,14 +229,6 @@ pub outlet-same : (v w : View) → Ready v → w .units ≡ v .units → ((k : �
 unfolding outlet
 outlet-same v w r n s j h = ap (λ (m : ℕ). outletTo w m j) n ∙ to-same v w r s (v .units) j h
 
-pub below-same : (v w : View) → Ready v → w .units ≡ v .units → ((k : ℕ) → k < v .units → downstream w k ≡ downstream v k)
-    → (u x : ℕ) → u < v .units → liesBelow w u x ≡ liesBelow v u x
-below-same v w r n s u x h =
-    below-by w u x
-    ∙ ap (λ (m : ℕ). belowBy (downstream w) m u x) n
-    ∙ sym (by-same (downstream v) (v .units) (ready-tree v r) (downstream w) (λ k g. sym (s k g)) (v .units) u x h)
-    ∙ sym (below-by v u x)
-
 -- The outlet of unit j, or some unit that drains there, straight or through others: these are the units of j's basin.
 module _ (v : View) (r : Ready v) (o : ℕ) (e : downstream v o ≡ 0) where
   drains-to : (way k : ℕ) → k < v .units → v .units ≤ way + k → eqb (outlet v k) o ≡ (eqb k o || liesBelow v k o)
@@ -252,9 +238,9 @@ module _ (v : View) (r : Ready v) (o : ℕ) (e : downstream v o ≡ 0) where
       (λ q. ap (λ (m : ℕ). eqb m o) (outlet-self v k q) ∙ last (eqb k o) (liesBelow v k o) (below-none v k o q))
       (λ q.
       let d = pred (downstream v k) in
-      let s = onto (downstream v) (v .units) (record { onward = r .onward; within = r .within }) k h q in
+      let b = below-of v r k h q in
       ap (λ (m : ℕ). eqb m o) (outlet-next v r k h q)
-      ∙ drains-to way d (s .inside) (omega (arith, s .later))
+      ∙ drains-to way d (b .within) (omega (arith, b .later))
       ∙ sym (below-next v r k o h q)
       ∙ rest (eqb k o) (liesBelow v k o) (ne-eqb k o (λ z. q (ap (downstream v) z ∙ e))))
     where

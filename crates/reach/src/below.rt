@@ -10,7 +10,7 @@ use model::Balance;
 use model::Unit;
 
 // The downstream number of each unit, and 0 in the unused places.
-pub fn downs(units: [Unit; Balance::UNITS], n: usize) -> [u8; Balance::UNITS]
+fn downs(units: [Unit; Balance::UNITS], n: usize) -> [u8; Balance::UNITS]
     requires { ⌜ n ≤ unitLimit ⌝ }
     ensures { λ r. ⌜ DownstreamNumbers (unitsView units n) r ⌝ }
 {

@@ -2,6 +2,5 @@
 mod below;
 mod outlet;
 
-pub use below::downs;
 pub use below::lies_below;
 pub use outlet::outlets;

@@ -11,6 +11,8 @@ use Rattle.record.specs.declared.CallMark.{CallMark}
 use Rattle.record.specs.declared.CallMark.the-variants.{Gu, Ga, Tu, Ta, Ca, None}
 use Rattle.record.specs.declared.CallAt.{CallAt}
 use Rattle.record.specs.declared.CallAt.the-variants.{End, Fails, Asks}
+use Rattle.record.specs.declared.Ending.{Ending}
+use Rattle.record.specs.declared.Ending.the-variants.{Finished, Failed}
 use Rattle.record.specs.Bytes.{bits8, bits16, bits32}
 use Rattle.record.specs.Record.{spells}
 
@@ -60,19 +62,15 @@ callAt s at =
     cond (eqb (length s - at) 0) End
     (cond (eqb (length s - at) 1) (Fails 1) (callMarked (callMark (bits8 s at) (bits8 s (at + 1))) s at))
 
--- How the calls of a book end: with the book, or with a record that fails under a number at its place.
-pub data Ending : Type 0 where
-  finished : Ending
-  failed : ℕ → ℕ → Ending
-
--- The calls that stand from an offset on, in order, and how they end, of at most so many records.
+-- The calls that stand from an offset on, in order, and how they end, of at most so many records: with the book, or with a record that
+-- fails under a number at its place.
 unfoldable pub callsFrom : ℕ → List ℕ → ℕ → List Call
 callsFrom zero s at = []
 callsFrom (suc records) s at = elim (callAt s at) [ End ↦ [] | Fails n ↦ [] | Asks c to ↦ c ∷ callsFrom records s to ]
 
 unfoldable pub endingFrom : ℕ → List ℕ → ℕ → Ending
-endingFrom zero s at = failed 1 at
-endingFrom (suc records) s at = elim (callAt s at) [ End ↦ finished | Fails n ↦ failed n at | Asks c to ↦ endingFrom records s to ]
+endingFrom zero s at = Failed 1 at
+endingFrom (suc records) s at = elim (callAt s at) [ End ↦ Finished | Fails n ↦ Failed n at | Asks c to ↦ endingFrom records s to ]
 
 -- The calls of a book whose description ends at an offset. Each record takes bytes, so there are no more records than bytes.
 abbrev pub callsOf : List ℕ → ℕ → List Call

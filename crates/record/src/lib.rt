@@ -70,3 +70,9 @@ pub enum CallAt {
     Fails { number: u8 },
     Asks { call: model::Call, to: usize },
 }
+
+// How the calls of a book end: with the book, or with a record that fails with 1 or 2 at its place.
+pub enum Ending {
+    Finished,
+    Failed { number: u8, place: usize },
+}

@@ -3,8 +3,6 @@ use Prim.Native.Nat.{ℕ, pred, _≤_, _<_}
 use mathlib.Core.Path.{_≡_, refl, sym, ap, _∙_}
 use mathlib.Core.Bool.{Bool, cond, not, _&&_, _||_}
 use lib.Dec.{eqb}
-use lib.IntN.{pos, _-ℤ_}
-use lib.Signed.{nonNeg}
 use native.Mathlib.Omega.{arith}
 use Rattle.laws.specs.Sum.{every}
 use Rattle.model.specs.declared.Aquifer.{Aquifer}
@@ -13,18 +11,18 @@ use Rattle.model.specs.declared.Title.{Title}
 use Rattle.model.specs.declared.Title.the-variants.{UnitWithdrawal, AquiferWithdrawal, UnitTransfer, AquiferTransfer}
 use Rattle.model.specs.Fresh.{emptyPlace}
 use Rattle.model.specs.View.{View}
-use Rattle.river.proofs.Units.{alone, flow-alone, committed-alone}
+use Rattle.river.proofs.Units.{alone}
+use Rattle.figures.proofs.Units.{unit-figures-alone}
 use Rattle.reach.proofs.Units.{outlet-alone, below-alone}
 use Rattle.basin.specs.Sound.{exists}
 use Rattle.effect.specs.Granted.{Named}
-use Rattle.refusal.specs.Grant.{dry, drained, noWater, downstreamTransfer, overfull}
+use Rattle.refusal.specs.Grant.{inDeficit, dry, drained, noWater, downstreamTransfer, overfull}
 use Rattle.refusal.specs.Steps.{givingUnit, givingAquifer, volumeNumber, earlyNumber}
 
 -- What is worked out over the units of a view alone is the same over the view.
 pub dry-alone : (v : View) (j : ℕ) → dry (alone v) j ≡ dry v j
 dry-alone v j = λ i.
-    not (every (v .units) (λ k. not (eqb (outlet-alone v k i) (outlet-alone v j i)
-    && (not (nonNeg (flow-alone v k i)) || not (nonNeg (flow-alone v k i -ℤ pos (committed-alone v k i)))))))
+    not (every (v .units) (λ k. not (eqb (outlet-alone v k i) (outlet-alone v j i) && inDeficit (unit-figures-alone v k i))))
 
 pub downstream-alone : (v : View) (g r : ℕ) → downstreamTransfer (alone v) g r ≡ downstreamTransfer v g r
 downstream-alone v g r = λ i. eqb g r || below-alone v (pred g) (pred r) i

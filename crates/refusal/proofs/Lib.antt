@@ -1,4 +1,3 @@
 pub mod Negative
 pub mod Granting
-pub mod Wanting
 pub mod Giving

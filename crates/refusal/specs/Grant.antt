@@ -10,9 +10,9 @@ use Rattle.model.specs.View.{View}
 use Rattle.model.specs.Answers.{Refusal, none, refuse}
 use Rattle.model.specs.Limits.{titleLimit, termLimit}
 use Rattle.titles.specs.Adds.{returned}
-use Rattle.river.specs.Flow.{flow}
-use Rattle.river.specs.Reserve.{availability}
 use Rattle.river.specs.Wells.{wellAvailability}
+use Rattle.figures.specs.declared.UnitFigures.{UnitFigures}
+use Rattle.figures.specs.Figures.{unitFigures}
 use Rattle.basin.specs.Sound.{exists, isVolume}
 use Rattle.reach.specs.Reach.{liesBelow, sameBasin}
 use Rattle.effect.specs.Granted.{granted}
@@ -27,9 +27,12 @@ overfull v (AquiferWithdrawal a x) = past (v .aquifer (pred a) .extraction + x)
 overfull v (UnitTransfer g r x) = past (v .unit (pred g) .exports + x) || past (v .unit (pred r) .imports + x)
 overfull v (AquiferTransfer a u x) = past (v .aquifer (pred a) .extraction + x) || past (v .unit (pred u) .imports + x)
 
--- A unit with a negative flow or a negative availability.
+-- Figures of a unit with a negative flow or a negative availability, and a unit with such figures.
+abbrev pub inDeficit : UnitFigures → Bool
+inDeficit f = not (nonNeg (f .flow)) || not (nonNeg (f .availability))
+
 abbrev pub wanting : View → ℕ → Bool
-wanting v k = not (nonNeg (flow v k)) || not (nonNeg (availability v k))
+wanting v k = inDeficit (unitFigures v k)
 
 -- The outlet of unit j, or some unit that drains there, straight or through others, is wanting.
 abbrev pub dry : View → ℕ → Bool

@@ -1,16 +1,20 @@
 -- The steps of a grant, by the numbers of the refusals; 0 where none applies. Assumes nothing.
-use Prim.Native.Nat.{ℕ, _+_}
-use mathlib.Core.Bool.{Bool, cond, _&&_}
+use Prim.Native.Nat.{ℕ}
+use mathlib.Core.Bool.{Bool, cond, not, _&&_}
 use mathlib.Core.List.{List, []}
-use lib.Dec.{eqb, leb, ltb}
+use lib.Dec.{eqb, leb}
+use lib.ListN.{getD}
+use Rattle.laws.specs.Sum.{every}
 use Rattle.model.specs.declared.Unit.{Unit}
 use Rattle.model.specs.declared.Aquifer.{Aquifer}
 use Rattle.model.specs.declared.Title.{Title}
 use Rattle.model.specs.declared.Title.the-variants.{UnitWithdrawal, AquiferWithdrawal, UnitTransfer, AquiferTransfer}
 use Rattle.model.specs.View.{View}
 use Rattle.model.specs.Limits.{titleLimit}
+use Rattle.figures.specs.declared.UnitFigures.{UnitFigures}
+use Rattle.figures.specs.Figures.{noUnitFigures}
 use Rattle.basin.specs.Sound.{exists, isVolume, partsView}
-use Rattle.refusal.specs.Grant.{overfull, downstreamTransfer}
+use Rattle.refusal.specs.Grant.{inDeficit, overfull, downstreamTransfer}
 
 -- 14, 15 or 16.
 abbrev pub volumeNumber : ℕ → ℕ → Bool → ℕ
@@ -46,6 +50,6 @@ givingAquifer (AquiferTransfer a u x) = a
 abbrev pub entriesView : List Unit → ℕ → List Aquifer → ℕ → ℕ → View
 entriesView us n ws m given = partsView us n ws m [] given
 
--- A unit of an outlet's basin with a negative flow or a negative availability, by what is gained, lost and committed at it and above it.
-abbrev pub wantingAmounts : ℕ → ℕ → ℕ → ℕ → ℕ → Bool
-wantingAmounts end outlet gained lost committed = eqb end outlet && ltb gained (lost + committed)
+-- Some of n units drains to outlet o and has a negative flow or a negative availability, by their figures and their outlets.
+abbrev pub dryBy : List UnitFigures → List ℕ → ℕ → ℕ → Bool
+dryBy figures ends n o = not (every n (λ k. not (eqb (getD ends k 0) o && inDeficit (getD figures k noUnitFigures))))

@@ -4,30 +4,54 @@ ghost use mathlib.Core.Bool.{not};
 ghost use lib.Signed.{nonNeg};
 ghost use Prim.Native.Nat.{_≤_, _<_};
 ghost use Rattle.laws.specs.Signed.{above, below};
-ghost use Rattle.model.specs.Limits.{termLimit};
+ghost use Rattle.model.specs.Limits.{unitLimit, termLimit};
 ghost use Rattle.river.specs.Flow.{Ready};
 ghost use Rattle.river.specs.Units.{unitsView};
 ghost use Rattle.river.specs.Wells.{wellAvailability};
-ghost use Rattle.river.specs.Limits.{gatheredLimit, committedLimit};
 ghost use Rattle.figures.specs.Figures.{WellsReady, aquifersView};
 ghost use Rattle.refusal.specs.Grant as grants;
 ghost use Rattle.effect.specs.Granted.{Named};
 ghost use Rattle.refusal.specs.Steps as steps;
 ghost use Rattle.refusal.specs.Steps.{entriesView};
+use figures::UnitFigures;
 use model::Aquifer;
 use model::Balance;
 use model::Title;
 use model::Unit;
 
-// A unit of an outlet's basin with a negative flow or a negative availability: with what is committed it loses more than it gains.
-fn wanting(end: usize, outlet: usize, gained: u64, lost: u64, committed: u64) -> bool
-    requires { ⌜ (lost ≤ gatheredLimit) × (committed ≤ committedLimit) ⌝ }
-    ensures { λ r. ⌜ r ≡ steps.wantingAmounts end outlet gained lost committed ⌝ }
+// Figures of a unit with a negative flow or a negative availability.
+fn in_deficit(f: UnitFigures) -> bool
+    ensures { λ r. ⌜ r ≡ grants.inDeficit f ⌝ }
 {
-    if end != outlet {
-        return false;
+    let flow = f.flow;
+    if flow < 0 {
+        return true;
     }
-    gained < lost + committed
+    let availability = f.availability;
+    availability < 0
+}
+
+// Some of n units drains to an outlet and has a negative flow or a negative availability, by their figures and their outlets.
+fn dry_by(
+    figures: [UnitFigures; Balance::UNITS],
+    ends: [usize; Balance::UNITS],
+    n: usize,
+    outlet: usize,
+) -> bool
+    requires { ⌜ n ≤ unitLimit ⌝ }
+    ensures { λ r. ⌜ r ≡ steps.dryBy figures ends n outlet ⌝ }
+{
+    let mut i = 0;
+    while i < n {
+        if ends[i] == outlet {
+            let f = figures[i];
+            if in_deficit(f) {
+                return true;
+            }
+        }
+        i += 1;
+    }
+    false
 }
 
 // The outlet of the unit at an index, or some unit that drains there, has a negative flow or a negative availability.
@@ -35,22 +59,9 @@ fn dry(units: [Unit; Balance::UNITS], n: usize, j: usize) -> bool
     requires { ⌜ Ready (unitsView units n) × (j < n) ⌝ }
     ensures { λ r. ⌜ r ≡ grants.dry (unitsView units n) j ⌝ }
 {
-    let mut gained = [0u64; Balance::UNITS];
-    let mut lost = [0u64; Balance::UNITS];
-    let mut before = [0u64; Balance::UNITS];
-    let mut arrived = [0u64; Balance::UNITS];
-    river::flow_amounts(units, n, &mut gained, &mut lost, &mut before, &mut arrived);
-    let volumes = river::committed(units, n, &gained, &lost, &before, &arrived);
     let ends = reach::outlets(units, n);
     let outlet = ends[j];
-    let mut i = 0;
-    while i < n {
-        if wanting(ends[i], outlet, gained[i], lost[i], volumes[i]) {
-            return true;
-        }
-        i += 1;
-    }
-    false
+    dry_by(figures::of_units(units, n), ends, n, outlet)
 }
 
 // An aquifer with a negative availability.

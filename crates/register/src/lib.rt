@@ -1,7 +1,8 @@
-// The register: titles granted, transferred and cancelled, each call from a balance to a reply.
+// The register: titles granted, transferred and cancelled, each call from a balance to a reply. The steps of a call, for callers that run
+// many over one tested balance, are in `decision` and `outcome`.
 mod asked;
-mod decision;
-mod outcome;
+pub mod decision;
+pub mod outcome;
 
 pub use asked::ask;
 pub use asked::bring;
@@ -9,9 +10,6 @@ pub use asked::cancel;
 pub use asked::pump;
 pub use asked::transfer;
 pub use asked::withdraw;
-pub use decision::decide;
-pub use outcome::number_of;
-pub use outcome::perform;
 
 // The reply of a call: the answer, the title's number (0 if refused) and the balance.
 pub struct Reply {

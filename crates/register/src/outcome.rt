@@ -30,7 +30,7 @@ fn lengths(
 }
 
 // The arrays of a balance have their full length.
-pub fn sized(b: Balance) -> bool
+pub(crate) fn sized(b: Balance) -> bool
     ensures { λ r. ⌜ Sized b ⌝ }
 {
     let units = b.units;
@@ -64,7 +64,7 @@ pub fn number_of(given: usize, c: Call) -> u16
 }
 
 // A refused call hands back the old balance, and 0 as the title's number.
-pub fn refused(b: Balance, code: u8) -> Reply
+pub(crate) fn refused(b: Balance, code: u8) -> Reply
     ensures { λ r. ⌜ r ≡ replies.replied (number code) b b 0 ⌝ }
 {
     Reply {

@@ -90,15 +90,17 @@ arriving-none v x r zero j h g = refl
 arriving-none v x r (suc i) j h g =
     rw (ne-eqb (downstream v i) (suc j) (omega (arith, r .within i (omega arith)))) (omega (arith, arriving-none v x r i j (omega arith) g))
 
+-- So a place past the last unit holds 0, if each place holds what has arrived there.
+pub rest-none : (v : View) (x : ℕ → ℕ) → Ready v → (w : List ℕ) → length w ≡ 64
+    → ((j : ℕ) → v .units ≤ j → j < 64 → getD w j 0 ≡ arriving naturals (downstream v) x (v .units) j)
+    → (j : ℕ) → v .units ≤ j → getD w j 0 ≡ 0
+rest-none v x r w long each j h =
+    by-lt j 64
+    (λ g. each j h g ∙ arriving-none v x r (v .units) j (omega arith) h)
+    (λ g. List·getD-eq-default w 0 (omega arith))
+
 -- When all units are passed, each holds what it gathers.
 pub carried-gathered : (v : View) (lost : Bool) → Ready v → (w : List ℕ)
     → Carried 64 (downstream v) (gathered v lost) (v .units) w → Gathered v lost w
 carried-gathered v lost r w p =
-    record {
-      long = p .long;
-      each = p .done;
-      rest = λ j h.
-          by-lt j 64
-          (λ g. p .ahead j h g ∙ arriving-none v (gathered v lost) r (v .units) j (omega arith) h)
-          (λ g. List·getD-eq-default w 0 (omega (arith, p .long)));
-    }
+    record { long = p .long; each = p .done; rest = rest-none v (gathered v lost) r w (p .long) (p .ahead) }

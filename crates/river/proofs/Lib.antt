@@ -4,3 +4,4 @@ pub mod Firsts
 pub mod Carried
 pub mod Stepping
 pub mod Units
+pub mod Local

@@ -4,7 +4,6 @@ mod reserve;
 mod search;
 
 pub use flow::flow_amounts;
-pub use reserve::committed;
 pub use reserve::contribution;
 pub use reserve::from_below;
 pub use reserve::from_own;

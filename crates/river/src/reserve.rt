@@ -1,14 +1,11 @@
 // Committed volume and own reserve: a demand split over running totals.
 ghost use mathlib.Core.Path.{_≡_};
 ghost use Prim.Native.Nat.{_+_, _-_, _*_, _/_, _≤_, _<_};
-ghost use Rattle.river.specs.Flow.{Ready};
 ghost use Rattle.river.specs.Reserve as reserves;
-ghost use Rattle.river.specs.Passes.{Flows, CommittedVolumes, Splits, fromBelow, fromOwn};
-ghost use Rattle.river.specs.Units.{unitsView};
+ghost use Rattle.river.specs.Passes.{Splits, fromBelow, fromOwn};
 ghost use Rattle.river.specs.Limits.{committedLimit, splitLimit};
 ghost use mathlib.Core.Bool.{cond};
 ghost use lib.Dec.{eqb};
-use model::Balance;
 use model::Unit;
 
 // What a unit contributes to its downstream unit: its flow, or 0 where that is negative.
@@ -92,35 +89,4 @@ pub fn from_own(u: Unit, committed: u64, arrived: u64) -> u64
     ensures { λ r. ⌜ r ≡ fromOwn u committed arrived ⌝ }
 {
     share_own(demand(u, committed), arrived + inflow(u), arrived)
-}
-
-// Backward over the units: an outlet's committed volume is its commitment, another unit's is its share of the demand below.
-pub fn committed<'a>(
-    units: [Unit; Balance::UNITS],
-    n: usize,
-    gained: &'a [u64; Balance::UNITS],
-    lost: &'a [u64; Balance::UNITS],
-    before: &'a [u64; Balance::UNITS],
-    arrived: &'a [u64; Balance::UNITS],
-) -> [u64; Balance::UNITS]
-    requires { ⌜ Ready (unitsView units n) ⌝ }
-    requires { ⌜ Flows (unitsView units n) (now gained) (now lost) (now before) (now arrived) ⌝ }
-    ensures { λ r. ⌜ CommittedVolumes (unitsView units n) r ⌝ }
-{
-    let mut volumes = [0u64; Balance::UNITS];
-    let mut i = n;
-    while 0 < i {
-        i -= 1;
-        let u = units[i];
-        let d = u.downstream as usize;
-        if 0 < d {
-            let k = d - 1;
-            let w = units[k];
-            let own = contribution(gained[i], lost[i]);
-            volumes[i] = from_below(w, volumes[k], arrived[k], before[i], own);
-        } else {
-            volumes[i] = u.commitment as u64;
-        }
-    }
-    volumes
 }

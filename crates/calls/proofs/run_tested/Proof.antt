@@ -31,20 +31,16 @@ call-at-requires c κs = search needs
 enum-told : tie.Need-enum-told Inv-loop μ-loop
 enum-told c = search needs
 
-finished-requires : tie.Need-finished-requires Inv-loop μ-loop
-finished-requires c κs = search needs
-
 returns : tie.Need-returns Inv-loop μ-loop
-returns c = c .finished .ensures ∙ turn-ends _ _ _ _ _ (c .before .before .before .before .loop-test .taken) (c .before .before .before .before .before .loop .inv .0) (sym (c .before .before .before .call-at .ensures) ∙ c .before .enum-told .given .1)
+returns c =
+    turn-ends _ _ _ _ _ (c .before .before .before .loop-test .taken) (c .before .before .before .before .loop .inv .0) (sym (c .before .before .call-at .ensures) ∙ c .enum-told .given .1)
 
 enum-known-number : tie.Need-enum-known-number Inv-loop μ-loop
 enum-known-number c = search needs
 
-failed-requires : tie.Need-failed-requires Inv-loop μ-loop
-failed-requires c κs = search needs
-
 returns-2 : tie.Need-returns-2 Inv-loop μ-loop
-returns-2 c = c .failed .ensures ∙ turn-fails _ _ _ _ _ _ (c .before .before .before .before .before .loop-test .taken) (c .before .before .before .before .before .before .loop .inv .0) (sym (c .before .before .before .before .call-at .ensures) ∙ c .before .before .number .given .1)
+returns-2 c =
+    turn-fails _ _ _ _ _ _ (c .before .before .before .before .loop-test .taken) (c .before .before .before .before .before .loop .inv .0) (sym (c .before .before .before .call-at .ensures) ∙ c .before .number .given .1)
 
 enum-known-call : tie.Need-enum-known-call Inv-loop μ-loop
 enum-known-call c = search needs
@@ -81,11 +77,8 @@ loop-again-2 c = (
   c .before .before .before .before .before .before .before .before .loop .inv .1,
 )
 
-failed-requires-2 : tie.Need-failed-requires-2 Inv-loop μ-loop
-failed-requires-2 c κs = search needs
-
 returns-3 : tie.Need-returns-3 Inv-loop μ-loop
-returns-3 c = c .failed2 .ensures ∙ turn-none _ _ _ _ _ (omega arith) (c .before .before .loop .inv .0)
+returns-3 c = turn-none _ _ _ _ _ (omega arith) (c .before .loop .inv .0)
 
 pub run-tested-spec : {M : Type 1} → statement M
 run-tested-spec =
@@ -98,10 +91,8 @@ run-tested-spec =
     sub-left
     call-at-requires
     enum-told
-    finished-requires
     returns
     enum-known-number
-    failed-requires
     returns-2
     enum-known-call
     decide-requires
@@ -112,5 +103,4 @@ run-tested-spec =
     enum-told-3
     loop-less-2
     loop-again-2
-    failed-requires-2
     returns-3)

@@ -1,5 +1,5 @@
 -- `dashboard::table_after` meets its contract. Assumes nothing.
-use Rattle.model.specs.declared.Answer.the-variants.{Accepted, Refused}
+use Rattle.record.specs.declared.Ending.the-variants.{Finished, Failed}
 use Rattle.dashboard.proofs.Tables.{after-is}
 use borrow.Author.Needs.{needs}
 use Rattle.dashboard.proofs.table_after.Statement.{statement}
@@ -11,19 +11,19 @@ enum-told c = search needs
 table-of-requires : tie.Need-table-of-requires
 table-of-requires c κs = search needs
 
-enum-known-answer : tie.Need-enum-known-answer
-enum-known-answer c = search needs
+enum-known-ending : tie.Need-enum-known-ending
+enum-known-ending c = search needs
 
 table-of-requires-2 : tie.Need-table-of-requires-2
 table-of-requires-2 c κs = search needs
 
 returns : tie.Need-returns
-returns c = after-is (c .before .before .before .before .args .ran) Accepted _ (c .before .enum-told .given .1) (c .table-of .ensures)
+returns c = after-is (c .before .before .before .before .args .ran) Finished _ (c .before .enum-told .given .1) (c .table-of .ensures)
 
 returns-2 : tie.Need-returns-2
-returns-2 c = after-is (c .before .before .before .before .before .args .ran) (Refused _) _ (c .before .before .answer .given .1) (c .table-of2 .ensures)
+returns-2 c = after-is (c .before .before .before .before .before .args .ran) (Failed _ _) _ (c .before .before .ending .given .1) (c .table-of2 .ensures)
 
 pub table-after-spec : {M : Type 1} → statement M
 table-after-spec =
     tie.close
-    (tie.spec enum-told table-of-requires enum-known-answer table-of-requires-2 returns returns-2)
+    (tie.spec enum-told table-of-requires enum-known-ending table-of-requires-2 returns returns-2)

@@ -8,8 +8,7 @@ use Rattle.model.specs.View.{viewOf}
 use Rattle.basin.specs.Sound.{sound}
 use Rattle.basin.proofs.Soundness.{soundness}
 use Rattle.calls.proofs.Running.{turn-ends, turn-fails, turn-none}
-use Rattle.text.proofs.Writing.{then, widen}
-use Rattle.listing.proofs.Calling.{Printing, printing-start, lines-end, lines-fail, lines-none, printing-answered, printing-refused}
+use Rattle.listing.proofs.Calling.{Printing, printing-start, lines-end, lines-fail, lines-none, printed-so, printing-answered, printing-refused}
 use Rattle.listing.proofs.call_lines.Statement.{statement}
 use Rattle.listing.proofs.call_lines.Tie as tie
 
@@ -37,38 +36,30 @@ call-at-requires c κs = search needs
 enum-told : tie.Need-enum-told Inv-loop μ-loop
 enum-told c = search needs
 
-finished-requires : tie.Need-finished-requires Inv-loop μ-loop
-finished-requires c κs = search needs
-
 returns : tie.Need-returns Inv-loop μ-loop
 returns c =
-    let start = c .before .before .before .before .before .before .before .before .before in
-    let turn = c .before .before .before .before .before .loop in
-    let none = c .before .before .before .before .before .before .no-line .ensures in
-    record {
-      lines =
-          widen (then none (lines-end (start .args .s .now) (start .args .from) (start .args .balance) _ _ _ _ _ _ _ _ (c .before .before .before .before .loop-test .taken) (turn .inv .0) (sym (c .before .before .before .call-at .ensures) ∙ c .before .enum-told .given .1)))
-          (omega (arith, turn .inv .0 .few, start .pre .0));
-      result = c .finished .ensures ∙ turn-ends (start .args .s .now) _ _ _ _ (c .before .before .before .before .loop-test .taken) (turn .inv .0 .same) (sym (c .before .before .before .call-at .ensures) ∙ c .before .enum-told .given .1);
-    }
+    let start = c .before .before .before .before .before .before .before .before in
+    let turn = c .before .before .before .before .loop in
+    let none = c .before .before .before .before .before .no-line .ensures in
+    let stands = sym (c .before .before .call-at .ensures) ∙ c .enum-told .given .1 in
+    printed-so (start .args .s .now) (start .args .from) (start .args .balance) none
+    (lines-end (start .args .s .now) (start .args .from) (start .args .balance) _ _ _ _ _ _ _ _ (c .before .before .before .loop-test .taken) (turn .inv .0) stands)
+    (omega (arith, turn .inv .0 .few, start .pre .0))
+    (turn-ends (start .args .s .now) _ _ _ _ (c .before .before .before .loop-test .taken) (turn .inv .0 .same) stands)
 
 enum-known-number : tie.Need-enum-known-number Inv-loop μ-loop
 enum-known-number c = search needs
 
-failed-requires : tie.Need-failed-requires Inv-loop μ-loop
-failed-requires c κs = search needs
-
 returns-2 : tie.Need-returns-2 Inv-loop μ-loop
 returns-2 c =
-    let start = c .before .before .before .before .before .before .before .before .before .before in
-    let turn = c .before .before .before .before .before .before .loop in
-    let none = c .before .before .before .before .before .before .before .no-line .ensures in
-    record {
-      lines =
-          widen (then none (lines-fail (start .args .s .now) (start .args .from) (start .args .balance) _ _ _ _ _ _ _ _ _ (c .before .before .before .before .before .loop-test .taken) (turn .inv .0) (sym (c .before .before .before .before .call-at .ensures) ∙ c .before .before .number .given .1)))
-          (omega (arith, turn .inv .0 .few, start .pre .0));
-      result = c .failed .ensures ∙ turn-fails (start .args .s .now) _ _ _ _ _ (c .before .before .before .before .before .loop-test .taken) (turn .inv .0 .same) (sym (c .before .before .before .before .call-at .ensures) ∙ c .before .before .number .given .1);
-    }
+    let start = c .before .before .before .before .before .before .before .before .before in
+    let turn = c .before .before .before .before .before .loop in
+    let none = c .before .before .before .before .before .before .no-line .ensures in
+    let stands = sym (c .before .before .before .call-at .ensures) ∙ c .before .number .given .1 in
+    printed-so (start .args .s .now) (start .args .from) (start .args .balance) none
+    (lines-fail (start .args .s .now) (start .args .from) (start .args .balance) _ _ _ _ _ _ _ _ _ (c .before .before .before .before .loop-test .taken) (turn .inv .0) stands)
+    (omega (arith, turn .inv .0 .few, start .pre .0))
+    (turn-fails (start .args .s .now) _ _ _ _ _ (c .before .before .before .before .loop-test .taken) (turn .inv .0 .same) stands)
 
 enum-known-call : tie.Need-enum-known-call Inv-loop μ-loop
 enum-known-call c = search needs
@@ -123,20 +114,15 @@ loop-again-2 c =
       turn .inv .1,
     )
 
-failed-requires-2 : tie.Need-failed-requires-2 Inv-loop μ-loop
-failed-requires-2 c κs = search needs
-
 returns-3 : tie.Need-returns-3 Inv-loop μ-loop
 returns-3 c =
-    let start = c .before .before .before .before .before .before in
-    let turn = c .before .before .loop in
-    let none = c .before .before .before .no-line .ensures in
-    record {
-      lines =
-          widen (then none (lines-none (start .args .s .now) (start .args .from) (start .args .balance) _ _ _ _ _ _ _ _ (omega arith) (turn .inv .0)))
-          (omega (arith, turn .inv .0 .few, start .pre .0));
-      result = c .failed2 .ensures ∙ turn-none (start .args .s .now) _ _ _ _ (omega arith) (turn .inv .0 .same);
-    }
+    let start = c .before .before .before .before .before in
+    let turn = c .before .loop in
+    let none = c .before .before .no-line .ensures in
+    printed-so (start .args .s .now) (start .args .from) (start .args .balance) none
+    (lines-none (start .args .s .now) (start .args .from) (start .args .balance) _ _ _ _ _ _ _ _ (omega arith) (turn .inv .0))
+    (omega (arith, turn .inv .0 .few, start .pre .0))
+    (turn-none (start .args .s .now) _ _ _ _ (omega arith) (turn .inv .0 .same))
 
 pub call-lines-spec : {M : Type 1} → statement M
 call-lines-spec =
@@ -150,10 +136,8 @@ call-lines-spec =
     sub-left
     call-at-requires
     enum-told
-    finished-requires
     returns
     enum-known-number
-    failed-requires
     returns-2
     enum-known-call
     decide-requires
@@ -167,5 +151,4 @@ call-lines-spec =
     enum-told-3
     loop-less-2
     loop-again-2
-    failed-requires-2
     returns-3)

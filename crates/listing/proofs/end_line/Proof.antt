@@ -1,7 +1,6 @@
 -- `listing::end_line` meets its contract. Assumes nothing.
 use mathlib.Core.Path.{sym, ap}
 use native.Mathlib.Omega.{arith}
-use Rattle.model.specs.declared.Answer.{Answer}
 use Rattle.text.proofs.Writing.{restate, widen}
 use Rattle.listing.specs.Listing.{endText}
 use borrow.Author.Needs.{needs}
@@ -14,8 +13,8 @@ enum-told c = search needs
 no-line-requires : tie.Need-no-line-requires
 no-line-requires c κs = search needs
 
-enum-known-answer : tie.Need-enum-known-answer
-enum-known-answer c = search needs
+enum-known-ending : tie.Need-enum-known-ending
+enum-known-ending c = search needs
 
 cast-refused-line : tie.Need-cast-refused-line
 cast-refused-line c = search needs
@@ -24,10 +23,10 @@ refused-line-requires : tie.Need-refused-line-requires
 refused-line-requires c κs = search needs
 
 returns : tie.Need-returns
-returns c = widen (restate (c .no-line .ensures) (ap (λ (x : Answer). endText x (c .before .before .before .before .args .place)) (sym (c .before .before .enum-told .given .1)))) (omega arith)
+returns c = widen (restate (c .no-line .ensures) (ap endText (sym (c .before .before .enum-told .given .1)))) (omega arith)
 
 returns-2 : tie.Need-returns-2
-returns-2 c = restate (c .refused-line .ensures) (ap (λ (x : Answer). endText x (c .before .before .before .before .before .args .place)) (sym (c .before .before .before .answer .given .1)))
+returns-2 c = restate (c .refused-line .ensures) (ap endText (sym (c .before .before .before .ending .given .1)))
 
 pub end-line-spec : {M : Type 1} → statement M
 end-line-spec =
@@ -35,7 +34,7 @@ end-line-spec =
     (tie.spec
     enum-told
     no-line-requires
-    enum-known-answer
+    enum-known-ending
     cast-refused-line
     refused-line-requires
     returns

@@ -1,5 +1,5 @@
 -- `listing::run_lines` meets its contract. Assumes nothing.
-use mathlib.Core.Path.{ap}
+use mathlib.Core.Path.{ap₂}
 use native.Mathlib.Omega.{arith}
 use Rattle.text.proofs.Writing.{then, widen, restate}
 use Rattle.listing.specs.Listing.{ranText}
@@ -17,7 +17,7 @@ returns : tie.Need-returns
 returns c =
     let lines = c .before .before .before .call-lines .ensures in
     widen
-    (then (lines .lines) (restate (c .ran-lines .ensures) (ap ranText (lines .result))))
+    (then (lines .lines) (restate (c .ran-lines .ensures) (ap₂ ranText (lines .ending) (lines .balance))))
     (omega arith)
 
 pub run-lines-spec : {M : Type 1} → statement M

@@ -6,7 +6,7 @@ use Rattle.model.specs.View.{viewOf}
 use Rattle.basin.specs.Sound.{sound}
 use Rattle.basin.specs.declared.Figures.{Figures}
 use Rattle.text.proofs.Writing.{then, widen, restate}
-use Rattle.listing.proofs.Tables.{accepted-sound, refused-unsound, few-units, few-aquifers, unit-lines-are, aquifer-lines-are, table-is, no-table}
+use Rattle.listing.proofs.Tables.{figures-sound, refused-unsound, few-units, few-aquifers, unit-lines-are, aquifer-lines-are, table-is, no-table}
 use borrow.Author.Needs.{needs}
 use Rattle.listing.proofs.table.Statement.{statement}
 use Rattle.listing.proofs.table.Tie as tie
@@ -19,7 +19,7 @@ enum-told c = search needs
 
 sound-here : (c : tie.After-enum-told) → sound (viewOf (c .before .before .before .before .before .args .b)) ≡ true
 sound-here c =
-    accepted-sound (viewOf (c .before .before .before .before .before .args .b)) (ap (λ (r : Figures). r .answer) (sym (c .before .before .before .before .figures .ensures)) ∙ c .enum-told .given .1)
+    figures-sound (viewOf (c .before .before .before .before .before .args .b)) (ap (λ (r : Figures). r .answer) (sym (c .before .before .before .before .figures .ensures)) ∙ c .enum-told .given .1)
 
 unit-lines-requires : tie.Need-unit-lines-requires
 unit-lines-requires c κs = (few-units (viewOf (c .before .before .before .before .before .before .args .b)) (sound-here (c .before)), omega arith)

@@ -2,13 +2,13 @@
 use mathlib.Core.Path.{_≡_, _∙_}
 use mathlib.Core.Bool.{true}
 use borrow.Author.Needs.{needs}
-use borrow.Author.Tests.{not-false}
 use Rattle.model.specs.View.{viewOf}
 use Rattle.river.proofs.Units.{ready-alone}
 use Rattle.figures.proofs.Units.{figures-alone}
 use Rattle.figures.proofs.Aquifers.{wells-alone}
 use Rattle.basin.specs.Sound.{sound}
 use Rattle.basin.proofs.Chains.{call-holds, call-fails}
+use Rattle.basin.proofs.Order.{sound-workable}
 use Rattle.basin.proofs.Soundness.{sound-ready, sound-wells-ready}
 use Rattle.basin.proofs.Replies.{refused-reply, accepted-reply}
 use Rattle.basin.proofs.reply.figures.Statement.{statement}
@@ -34,7 +34,7 @@ is-sound c = call-holds (c .before .tested .ensures .0) (c .if1 .left)
 unit-figures-requires : tie.Need-unit-figures-requires
 unit-figures-requires c κs =
     let else = c .before .before .before .before .before .before in
-    (ready-alone _ (sound-ready _ (is-sound else)), else .before .tested .ensures .1 (not-false _ (else .if1 .left)))
+    (ready-alone _ (sound-ready _ (is-sound else)), else .before .tested .ensures .1 .passed (sound-workable _ (is-sound else)))
 
 aquifer-figures-requires : tie.Need-aquifer-figures-requires
 aquifer-figures-requires c κs =

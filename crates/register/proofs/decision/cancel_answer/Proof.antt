@@ -1,5 +1,5 @@
 -- `register::cancel_answer` meets its contract. Assumes nothing.
-use Prim.Native.Nat.{ℕ}
+use Prim.Native.Nat.{ℕ, _-_}
 use mathlib.Core.Path.{_≡_, sym, ap, subst⁻¹, _∙_}
 use mathlib.Core.Bool.{true, not}
 use lib.ListN.{getD}
@@ -54,7 +54,7 @@ returns-3 c =
     let n = start .args .number in
     ap (λ (r : Reply). r .answer) (reply-not-in-force b n (start .pre)
     (out-of-force (viewOf b) n (omega (arith, c .before .before .before .if1 .left)) (omega (arith, c .before .before .if2 .left))
-    (sym (ap (λ (k : ℕ). getD (b .titles) k emptyPlace .«in_force») (sub-one n)) ∙ not-true _ (c .if3 .taken))))
+    (sym (ap (λ (k : ℕ). getD (b .titles) k emptyPlace .«in_force») (sub-one n)) ∙ not-true (getD (b .titles) (n - 1) emptyPlace .«in_force») (c .if3 .taken))))
 
 -- The number is in force.
 stands : (c : tie.Else3) → let start = c .before .before .before .before .before in inForce (viewOf (start .args .t1)) (start .args .number) ≡ true
@@ -63,7 +63,7 @@ stands c =
     let b = start .args .t1 in
     let n = start .args .number in
     is-in-force (viewOf b) n (omega (arith, c .before .before .before .if1 .left)) (omega (arith, c .before .before .if2 .left))
-    (sym (ap (λ (k : ℕ). getD (b .titles) k emptyPlace .«in_force») (sub-one n)) ∙ not-false _ (c .if3 .left))
+    (sym (ap (λ (k : ℕ). getD (b .titles) k emptyPlace .«in_force») (sub-one n)) ∙ not-false (getD (b .titles) (n - 1) emptyPlace .«in_force») (c .if3 .left))
 
 needed-requires : tie.Need-needed-requires
 needed-requires c κs =

@@ -21,7 +21,7 @@ use Rattle.river.specs.Reserve.{contribution}
 use Rattle.river.specs.Passes.{runningBefore}
 use Rattle.river.proofs.Flows.{tree, gathered-is, gathered-small, small}
 use Rattle.river.proofs.Reserves.{Below, below-of, contribution-is, left-within, total-small}
-use Rattle.river.proofs.Carried.{Carried, Whole, carried-start, carried-whole, whole-out, whole-on, left-small, carried-gathered}
+use Rattle.river.proofs.Carried.{Carried, Whole, carried-start, carried-whole, whole-out, whole-on, left-small, rest-none, carried-gathered}
 use Rattle.river.proofs.flow.flow_amounts.Statement.{statement}
 use Rattle.river.proofs.flow.flow_amounts.Tie as tie
 
@@ -337,6 +337,8 @@ returns c =
             each-arrived = λ w h.
                 g .each w (omega (arith, r .few))
                 ∙ arriving-stays (downstream v) (contribution v) (v .units) (v .units) w (tree v r) (omega arith) (omega arith);
+            rest-before = f .rest;
+            rest-arrived = rest-none v (contribution v) r (loop .arrived) (g .long) (λ w h. g .each w);
           };
     }
 
