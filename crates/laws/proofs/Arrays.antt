@@ -172,21 +172,21 @@ module _ {A : Type 0} where
   indexed-twice f g [] = refl
   indexed-twice f g (x ∷ xs) = ap (λ (l : List A). f 0 (g 0 x) ∷ l) (indexed-twice (λ k. f (suc k)) (λ k. g (suc k)) xs)
 
-  indexed-none : (f : ℕ → A → A) (l : List A) → ((k : ℕ) (a : A) → f k a ≡ a) → l ≡ indexed f l
+  -- Where every element stays as it was, so does the list.
+  pub indexed-none : (f : ℕ → A → A) (l : List A) → ((k : ℕ) (a : A) → f k a ≡ a) → l ≡ indexed f l
   unfolding indexed
   indexed-none f [] e = refl
   indexed-none f (x ∷ xs) e = λ i. sym (e 0 x) i ∷ indexed-none (λ k. f (suc k)) xs (λ k. e (suc k)) i
 
   -- One element is set, where the others stay as they were.
-  pub set-indexed : (f : ℕ → A → A) (l : List A) (d : A) (n : ℕ) → n < length l → ((k : ℕ) → (k ≡ n → ⊥) → (a : A) → f k a ≡ a)
+  pub set-indexed : (f : ℕ → A → A) (l : List A) (d : A) (n : ℕ) → ((k : ℕ) → (k ≡ n → ⊥) → (a : A) → f k a ≡ a)
       → set l n (f n (getD l n d)) ≡ indexed f l
   unfolding indexed
-  set-indexed f [] d n h e = absurd (omega arith)
-  set-indexed f (x ∷ xs) d zero h e =
+  set-indexed f [] d n e = refl
+  set-indexed f (x ∷ xs) d zero e =
       ap (λ (l : List A). f 0 x ∷ l) (indexed-none (λ k. f (suc k)) xs (λ k. e (suc k) (λ q. omega arith)))
-  set-indexed f (x ∷ xs) d (suc n) h e = λ i.
-      sym (e 0 (λ q. omega arith) x) i
-      ∷ set-indexed (λ k. f (suc k)) xs d n (omega arith) (λ k g. e (suc k) (λ q. g (omega arith))) i
+  set-indexed f (x ∷ xs) d (suc n) e = λ i.
+      sym (e 0 (λ q. omega arith) x) i ∷ set-indexed (λ k. f (suc k)) xs d n (λ k g. e (suc k) (λ q. g (omega arith))) i
 
   -- A list with one element set, by its places.
   pub getD-put : (l : List A) (d x : A) (n : ℕ) → n < length l → (k : ℕ) → getD (set l n x) k d ≡ putAt (λ j. getD l j d) n x k
