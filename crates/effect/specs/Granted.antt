@@ -12,9 +12,10 @@ use Rattle.model.specs.declared.Balance.{Balance}
 use Rattle.model.specs.Entries.{placeOf}
 use Rattle.model.specs.View.{View}
 use Rattle.model.specs.Limits.{unitLimit, aquiferLimit, titleLimit, termLimit}
+use Rattle.titles.specs.Posting.{postings}
 use Rattle.titles.specs.Adds.{returnOf}
 use Rattle.effect.specs.Effect.{changedUnits, changedWells, changedView, changedBalance}
-use Rattle.effect.specs.Room.{ArrayTakes, ArrayWellsTake}
+use Rattle.effect.specs.Room.{Names, ArrayTakes, ArrayWellsTake}
 
 -- The view with a title in force: every entry raised by what it adds, and the title under the next number.
 abbrev pub granted : View → Title → View
@@ -37,6 +38,10 @@ pub record Sized (b : Balance) : Type 0 where
   pub units : length (b .units) ≡ unitLimit
   pub aquifers : length (b .aquifers) ≡ aquiferLimit
   pub titles : length (b .titles) ≡ titleLimit
+
+-- What a title names is there.
+abbrev pub Named : View → Title → Type 0
+Named v t = Names (v .units) (v .aquifers) (postings t (returnOf t))
 
 -- An entry may be raised by what it lacks to the limit.
 abbrev pub lacking : ℕ → ℕ

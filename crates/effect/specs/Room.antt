@@ -7,7 +7,6 @@ use Rattle.model.specs.declared.Unit.{Unit}
 use Rattle.model.specs.declared.Aquifer.{Aquifer}
 use Rattle.model.specs.declared.Title.{Title}
 use Rattle.model.specs.Fresh.{emptyUnit, emptyAquifer}
-use Rattle.model.specs.View.{View}
 use Rattle.model.specs.Limits.{unitLimit, aquiferLimit}
 use Rattle.titles.specs.Posting.{Posting, nothing, post, Postings, postings}
 use Rattle.titles.specs.Adds.{returnOf}
@@ -17,16 +16,13 @@ abbrev pub There : ℕ → Posting → Type 0
 There count nothing = Always {0}
 There count (post number amount) = (0 < number) × (number ≤ count)
 
--- What a title names is there.
+-- The numbers of all postings are there.
 pub record Names (units aquifers : ℕ) (p : Postings) : Type 0 where
   pub extraction : There units (p .extraction)
   pub exports : There units (p .exports)
   pub imports : There units (p .imports)
   pub returns : There units (p .returns)
   pub wells : There aquifers (p .wells)
-
-abbrev pub Named : View → Title → Type 0
-Named v t = Names (v .units) (v .aquifers) (postings t (returnOf t))
 
 -- The number of a posting is there, and its amount is no more than what the entry there leaves. How much an entry leaves is said by `left`.
 abbrev pub Takes : (ℕ → ℕ) → ℕ → (ℕ → ℕ) → Posting → Type 0
