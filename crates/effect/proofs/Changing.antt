@@ -9,7 +9,8 @@ use native.Mathlib.Omega.{arith}
 use native.Mathlib.Numerals.{sub-one}
 use Rattle.laws.specs.Sum.{naturals, only}
 use Rattle.laws.specs.Table.{indexed}
-use Rattle.laws.proofs.Arrays.{length-indexed, getD-indexed, indexed-none, indexed-twice, set-indexed, getD-put}
+use Rattle.laws.proofs.Arrays.{length-indexed, getD-indexed, indexed-none, indexed-twice, set-indexed}
+use Rattle.laws.proofs.Putting.{getD-put}
 use Rattle.model.specs.declared.Unit.{Unit}
 use Rattle.model.specs.declared.Aquifer.{Aquifer}
 use Rattle.model.specs.declared.Place.{Place}

@@ -10,7 +10,7 @@ use native.Mathlib.Omega.{arith}
 use borrow.Author.Tests.{eq-eqb, ne-eqb, lt-ltb, le-ltb}
 use Rattle.laws.specs.Sum.{naturals, sumOf}
 use Rattle.laws.specs.Gather.{arriving}
-use Rattle.laws.specs.Table.{tabulate, table, indexed, putAt}
+use Rattle.laws.specs.Table.{tabulate, table, indexed}
 use Rattle.laws.proofs.Cases.{by-eq, by-lt}
 
 -- Past its end a list reads as its default.
@@ -187,10 +187,3 @@ module _ {A : Type 0} where
       ap (λ (l : List A). f 0 x ∷ l) (indexed-none (λ k. f (suc k)) xs (λ k. e (suc k) (λ q. omega arith)))
   set-indexed f (x ∷ xs) d (suc n) e = λ i.
       sym (e 0 (λ q. omega arith) x) i ∷ set-indexed (λ k. f (suc k)) xs d n (λ k g. e (suc k) (λ q. g (omega arith))) i
-
-  -- A list with one element set, by its places.
-  pub getD-put : (l : List A) (d x : A) (n : ℕ) → n < length l → (k : ℕ) → getD (set l n x) k d ≡ putAt (λ j. getD l j d) n x k
-  getD-put l d x n h k =
-      by-eq k n
-      (λ e. rw (eq-eqb k n e, e) (getD-set-same l n x d h))
-      (λ e. rw (ne-eqb k n e) (getD-set-other l n k x d e))

@@ -1,20 +1,20 @@
 -- The view of a balance with a title out of force, and that a sound balance holds what its titles added. Assumes nothing.
 use Prim.Native.Nat.{ℕ, pred, _+_, _≤_, _<_}
-use mathlib.Core.Path.{_≡_, refl}
+use mathlib.Core.Path.{_≡_}
 use mathlib.Core.Bool.{true, false}
-use lib.ListN.{getD}
 use native.Mathlib.Omega.{arith}
-use borrow.Author.Tests.{eq-eqb, ne-eqb}
 use Rattle.laws.proofs.Every.{both}
+use Rattle.laws.proofs.Putting.{sum-put}
 use Rattle.model.specs.declared.Title.{Title}
 use Rattle.model.specs.declared.Title.the-variants.{UnitWithdrawal, AquiferWithdrawal, UnitTransfer, AquiferTransfer}
 use Rattle.model.specs.declared.Balance.{Balance}
+use Rattle.model.specs.Entries.{placeOf}
 use Rattle.model.specs.View.{View, viewOf}
 use Rattle.titles.specs.Posting.{postings}
-use Rattle.titles.specs.Adds.{returnOf, adds, titled}
+use Rattle.titles.specs.Adds.{returnOf, adds, placeAdds, titled}
 use Rattle.titles.specs.declared.Slot.{Slot}
 use Rattle.titles.specs.declared.Slot.the-variants.{Extraction, Exports, Imports, Returns, WellExtraction}
-use Rattle.titles.proofs.Adding.{place-cancelled}
+use Rattle.titles.proofs.Adding.{in-force}
 use Rattle.basin.specs.Sound.{exists}
 use Rattle.basin.proofs.Soundness.{TitleSound, Exists, Soundness, number-exists}
 use Rattle.effect.specs.Room.{Names, UnitsTake, WellsTake}
@@ -50,9 +50,11 @@ names-sound units aquifers (AquiferTransfer a u x) s =
 pub one-less : (v : View) (n : ℕ) → InForce v n → (s : Slot) (j : ℕ)
     → titled (cancelled v n) (v .given) s j + adds (titleOf v n) (returnOf (titleOf v n)) s j ≡ titled v (v .given) s j
 one-less v n f s j =
-    place-cancelled s j (v .given) (pred n) (v .place) (cancelled v n .place) (omega (arith, f .given .positive, f .given .within)) (f .stands)
-    (rw (eq-eqb (pred n) (pred n) refl) refl)
-    (λ k h e. rw (ne-eqb k (pred n) e) refl)
+    omega (
+      arith,
+      sum-put (λ p. placeAdds p s j) (v .place) (v .given) (pred n) (placeOf (titleOf v n) false) (omega (arith, f .given .positive, f .given .within)),
+      in-force s j (v .place (pred n)) (f .stands),
+    )
 
 -- A sound view holds what the title under a number in force added.
 module _ (v : View) (n : ℕ) (s : Soundness v) (f : InForce v n) where

@@ -6,17 +6,18 @@ use lib.Signed.{nonNeg, _≤ℤ_}
 use native.Mathlib.Omega.{arith}
 use borrow.Author.Tests.{eq-eqb, ne-eqb}
 use Rattle.laws.proofs.Cases.{by-bool, by-eq}
+use Rattle.laws.proofs.Putting.{sum-put-next}
 use Rattle.model.specs.declared.Unit.{Unit}
 use Rattle.model.specs.declared.Title.{Title}
 use Rattle.model.specs.declared.Title.the-variants.{UnitWithdrawal, AquiferWithdrawal, UnitTransfer, AquiferTransfer}
 use Rattle.model.specs.declared.Answer.{Answer}
 use Rattle.model.specs.declared.Answer.the-variants.{Accepted, Refused}
 use Rattle.model.specs.declared.Balance.{Balance}
+use Rattle.model.specs.Entries.{placeOf}
 use Rattle.model.specs.View.{View, viewOf}
-use Rattle.titles.specs.Adds.{returnOf, adds, titled}
+use Rattle.titles.specs.Adds.{returnOf, adds, placeAdds, titled}
 use Rattle.titles.specs.declared.Slot.{Slot}
 use Rattle.titles.specs.declared.Slot.the-variants.{Extraction, Exports, Imports, Returns, WellExtraction}
-use Rattle.titles.proofs.Adding.{place-granted}
 use Rattle.river.specs.Flow.{flow, net, downstream, Ready}
 use Rattle.river.proofs.Flows.{net-no-less}
 use Rattle.laws.proofs.Every.{every-each}
@@ -93,9 +94,7 @@ module _ (v : View) (t : Title) (s : Soundness v) (g : Granting v t) where
 
   -- What the titles in force add together, with one more.
   one-more : (k : Slot) (j : ℕ) → titled (granted v t) (suc (v .given)) k j ≡ titled v (v .given) k j + adds t (returnOf t) k j
-  one-more k j =
-      place-granted k j (v .given) (v .place) (granted v t .place) t (λ m h. rw (ne-eqb m (v .given) (omega arith)) refl)
-      (rw (eq-eqb (v .given) (v .given) refl) refl)
+  one-more k j = sum-put-next (λ p. placeAdds p k j) (v .place) (v .given) (placeOf t true)
 
   place-stays : (k : ℕ) → k < suc (v .given) → PlaceSound (v .units) (v .aquifers) (granted v t .place k)
   place-stays k h =
