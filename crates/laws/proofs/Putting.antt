@@ -29,6 +29,14 @@ module _ {A : Type 0} where
       by-test true = refl
       by-test false = refl
 
+  -- What holds of every place and of what is put holds of every place after.
+  pub put-holds : (P : A → Type 0) (g : ℕ → A) (n : ℕ) (x : A) → P x → ((k : ℕ) → P (g k)) → (k : ℕ) → P (putAt g n x k)
+  put-holds P g n x p h k = by-test (eqb k n)
+    where
+      by-test : (t : Bool) → P (cond t x (g k))
+      by-test true = p
+      by-test false = h k
+
   -- A list with one element set, by its places.
   pub getD-put : (l : List A) (d x : A) (n : ℕ) → n < length l → (k : ℕ) → getD (set l n x) k d ≡ putAt (λ j. getD l j d) n x k
   getD-put l d x n h k =
