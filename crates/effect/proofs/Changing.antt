@@ -19,11 +19,11 @@ use Rattle.model.specs.declared.Title.the-variants.{UnitWithdrawal, UnitTransfe
 use Rattle.model.specs.declared.Balance.{Balance}
 use Rattle.model.specs.Entries.{withEntries, withExtraction, placeOf}
 use Rattle.model.specs.Fresh.{emptyUnit, emptyAquifer, emptyPlace}
-use Rattle.model.specs.View.{View, viewOf}
+use Rattle.model.specs.View.{viewOf}
 use Rattle.titles.specs.Posting.{post, posts, postings}
 use Rattle.titles.specs.Adds.{returnOf}
 use Rattle.effect.specs.Effect.{changedBy, drawnBy, changedUnits, changedWells, changedUnit, changedAquifer, changedView, changedBalance}
-use Rattle.effect.specs.Room.{UnitsTake, WellsTake, ArrayTakes, ArrayWellsTake}
+use Rattle.effect.specs.Room.{ArrayTakes, ArrayWellsTake}
 use Rattle.effect.specs.Granted.{granted, posted, lacking, Sized, Grantable}
 use Rattle.effect.specs.Cancelled.{cancelled, titleOf, withoutTitle, held, Takable}
 use Rattle.effect.proofs.Taking.{here, elsewhere, takes-past}

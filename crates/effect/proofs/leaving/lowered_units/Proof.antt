@@ -1,6 +1,6 @@
 -- `effect::lowered_units` meets its contract. Assumes nothing.
 use Prim.Native.Nat.{ℕ, _-_}
-use mathlib.Core.Path.{_≡_, sym, ap, subst, subst⁻¹, _∙_}
+use mathlib.Core.Path.{sym, ap, subst, subst⁻¹, _∙_}
 use mathlib.Core.List.{List}
 use lib.ListN.{getD, set}
 use borrow.Author.Needs.{needs}
