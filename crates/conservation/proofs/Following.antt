@@ -8,7 +8,6 @@ use native.Mathlib.Omega.{arith}
 use borrow.Author.Tests.{eq-eqb, ne-eqb, not-false}
 use Rattle.laws.proofs.Cases.{by-lt, by-eq}
 use Rattle.laws.specs.Sum.{naturals, sumOf, only}
-use Rattle.laws.specs.Table.{putAt}
 use Rattle.laws.proofs.Arrays.{getD-empty, table-filled}
 use Rattle.laws.proofs.Putting.{put-read, put-holds, sum-put, sum-put-next}
 use Rattle.model.specs.declared.Unit.{Unit}
@@ -46,7 +45,7 @@ use Rattle.register.proofs.Replies.{grantable-of}
 use Rattle.register.proofs.Staying.{granted-sound}
 use Rattle.register.proofs.Cancelling.{InForce, in-force-of, cancelled-view}
 use Rattle.register.proofs.Leaving.{cancelled-sound}
-use Rattle.conservation.specs.Demand3.{Entered, Tally, start, baseUnit, baseAquifer, enteredAdds, added, standing, entries, entering, leaving, accepting, tallyRefusal, unlessRefused, tallied}
+use Rattle.conservation.specs.Demand3.{Tally, start, baseUnit, baseAquifer, enteredAdds, added, standing, entries, entering, leaving, accepting, tallyRefusal, unlessRefused, tallied}
 
 -- A balance follows a tally: its arrays have their full length, its view is the tally's, and it is sound; and the tally keeps with each
 -- title the return that the title has.
@@ -132,10 +131,6 @@ follows-start s d at e =
     subst⁻¹ (λ (b : Balance). Follows d b start) q
     (opened-follows d (subst (λ (b : Balance). sound (viewOf b) ≡ true) q (opening-sound s)))
 
--- The places of the tally as those of the register, with one put anew.
-put-standing : (f : ℕ → Entered) (n : ℕ) (x : Entered) (k : ℕ) → putAt (λ j. standing (f j)) n (standing x) k ≡ standing (putAt f n x k)
-put-standing f n x k = put-read standing f n x k
-
 -- The tally's entries with one title more are its entries with that title granted.
 module _ (d : Description) (t : Tally) (x : Title) where
   one-more : (j : ℕ) (s : Slot) (base : ℕ) → base + added t s j + adds x (returnOf x) s j ≡ base + added (accepting t (Grant x)) s j
@@ -143,7 +138,7 @@ module _ (d : Description) (t : Tally) (x : Title) where
 
   granted-entries : granted (entries d t) x ≡ entries d (accepting t (Grant x))
   granted-entries = λ i.
-      viewBy d (λ j s base. one-more j s base i) (suc (t .last)) (λ k. put-standing (t .place) (t .last) (entering x) k i)
+      viewBy d (λ j s base. one-more j s base i) (suc (t .last)) (λ k. put-read standing (t .place) (t .last) (entering x) k i)
 
   granted-kept : ((k : ℕ) → t .place k .back ≡ returnOf (t .place k .title))
       → (k : ℕ) → accepting t (Grant x) .place k .back ≡ returnOf (accepting t (Grant x) .place k .title)
@@ -168,7 +163,7 @@ module _ (d : Description) (t : Tally) (n : ℕ) (f : InForce (entries d t) n) (
 
   cancelled-entries : cancelled (entries d t) n ≡ entries d (accepting t (Cancel n))
   cancelled-entries = λ i.
-      viewBy d (λ j s base. one-fewer j s base i) (t .last) (λ k. put-standing (t .place) (pred n) (leaving (t .place (pred n))) k i)
+      viewBy d (λ j s base. one-fewer j s base i) (t .last) (λ k. put-read standing (t .place) (pred n) (leaving (t .place (pred n))) k i)
 
   cancelled-kept : (k : ℕ) → accepting t (Cancel n) .place k .back ≡ returnOf (accepting t (Cancel n) .place k .title)
   cancelled-kept k =

@@ -23,7 +23,7 @@ use Rattle.model.specs.View.{viewOf}
 use Rattle.titles.specs.Posting.{post, posts, postings}
 use Rattle.titles.specs.Adds.{returnOf}
 use Rattle.effect.specs.Effect.{changedBy, drawnBy, changedUnits, changedWells, changedUnit, changedAquifer, changedView, changedBalance}
-use Rattle.effect.specs.Room.{ArrayTakes, ArrayWellsTake}
+use Rattle.effect.specs.Room.{UnitArrayTakes, WellArrayTakes}
 use Rattle.effect.specs.Granted.{granted, posted, lacking, Sized, Grantable}
 use Rattle.effect.specs.Cancelled.{cancelled, titleOf, withoutTitle, held, Takable}
 use Rattle.effect.proofs.Taking.{here, elsewhere, takes-past}
@@ -105,7 +105,7 @@ module _ (op : ℕ → ℕ → ℕ) (neutral : (e : ℕ) → op e 0 ≡ e) where
 
   -- The unit, and the aquifer, at an index of the changed arrays.
   module _ (left : ℕ → ℕ) (t : Title) where
-    unit-changed : (us : List Unit) → length us ≡ 64 → ArrayTakes left t us → (k : ℕ)
+    unit-changed : (us : List Unit) → length us ≡ 64 → UnitArrayTakes left t us → (k : ℕ)
         → getD (changedUnits op t (returnOf t) us) k emptyUnit ≡ changedUnit op t (returnOf t) k (getD us k emptyUnit)
     unit-changed us l h k =
         let p = postings t (returnOf t) in
@@ -117,7 +117,7 @@ module _ (op : ℕ → ℕ → ℕ) (neutral : (e : ℕ) → op e 0 ≡ e) where
         (takes-past left (λ j. getD us j emptyUnit .returns) 64 (p .returns) (h .returns) k (omega arith) i))
         ∙ unchanged emptyUnit)
 
-    aquifer-changed : (ws : List Aquifer) → length ws ≡ 32 → ArrayWellsTake left t ws → (k : ℕ)
+    aquifer-changed : (ws : List Aquifer) → length ws ≡ 32 → WellArrayTakes left t ws → (k : ℕ)
         → getD (changedWells op t (returnOf t) ws) k emptyAquifer ≡ changedAquifer op t (returnOf t) k (getD ws k emptyAquifer)
     aquifer-changed ws l h k =
         getD-indexed _ ws emptyAquifer k
@@ -126,7 +126,7 @@ module _ (op : ℕ → ℕ → ℕ) (neutral : (e : ℕ) → op e 0 ≡ e) where
         ∙ undrawn emptyAquifer)
 
     -- The view of the changed balance is the changed view.
-    changed-view : (b : Balance) (given : ℕ) (titles : List Place) → Sized b → ArrayTakes left t (b .units) → ArrayWellsTake left t (b .aquifers)
+    changed-view : (b : Balance) (given : ℕ) (titles : List Place) → Sized b → UnitArrayTakes left t (b .units) → WellArrayTakes left t (b .aquifers)
         → viewOf (changedBalance op t (returnOf t) b given titles) ≡ changedView op t (returnOf t) (viewOf b) given (λ k. getD titles k emptyPlace)
     changed-view b given titles s u w = λ i.
         record {

@@ -12,7 +12,7 @@ use Rattle.model.specs.declared.Title.the-variants.{UnitWithdrawal, UnitTransfe
 use Rattle.model.specs.Fresh.{emptyUnit, emptyAquifer}
 use Rattle.titles.specs.Posting.{Posting, nothing, post, posts, Postings}
 use Rattle.titles.specs.Adds.{returned}
-use Rattle.effect.specs.Room.{There, Names, Takes, UnitsTake, WellsTake, ArrayTakes, Leaves}
+use Rattle.effect.specs.Room.{There, Names, Takes, UnitsTake, WellsTake, UnitArrayTakes, Leaves}
 
 -- A posting adds its amount at the index of its number, and nothing elsewhere.
 pub here : (n a : ℕ) → 0 < n → posts (post n a) (pred n) ≡ a
@@ -78,7 +78,7 @@ imports-kept f e (u ∷ us) (suc g) (suc k) = imports-kept f e us g k
 
 -- The index that the code works out of a number is one of the units', and the entries there leave what a title posts to them.
 module _ (left : ℕ → ℕ) (us : List Unit) where
-  pub withdrawal-leaves : (u r v : ℕ) → ArrayTakes left (UnitWithdrawal u r v) us
+  pub withdrawal-leaves : (u r v : ℕ) → UnitArrayTakes left (UnitWithdrawal u r v) us
       → (u - 1 < 64) × Leaves left (getD us (u - 1) emptyUnit) v 0 0 (returned r v)
   withdrawal-leaves u r v f =
       rw (sub-one u) (
@@ -86,7 +86,7 @@ module _ (left : ℕ → ℕ) (us : List Unit) where
         record { of-extraction = f .extraction .2; of-exports = zero-le; of-imports = zero-le; of-returns = f .returns .2 },
       )
 
-  pub giver-leaves : (g r v : ℕ) → ArrayTakes left (UnitTransfer g r v) us → (g - 1 < 64) × Leaves left (getD us (g - 1) emptyUnit) 0 v 0 0
+  pub giver-leaves : (g r v : ℕ) → UnitArrayTakes left (UnitTransfer g r v) us → (g - 1 < 64) × Leaves left (getD us (g - 1) emptyUnit) 0 v 0 0
   giver-leaves g r v f =
       rw (sub-one g) (
         omega (arith, f .exports .0, f .exports .1),
@@ -94,7 +94,7 @@ module _ (left : ℕ → ℕ) (us : List Unit) where
       )
 
   -- The receiver's imports are looked at when the giver's exports are changed.
-  pub receiver-leaves : (g r v : ℕ) (f : Unit → Unit) → ((u : Unit) → f u .imports ≡ u .imports) → ArrayTakes left (UnitTransfer g r v) us
+  pub receiver-leaves : (g r v : ℕ) (f : Unit → Unit) → ((u : Unit) → f u .imports ≡ u .imports) → UnitArrayTakes left (UnitTransfer g r v) us
       → (r - 1 < 64) × Leaves left (getD (set us (g - 1) (f (getD us (g - 1) emptyUnit))) (r - 1) emptyUnit) 0 0 v 0
   receiver-leaves g r v f e h = (
     omega (arith, h .imports .0, h .imports .1),
@@ -108,7 +108,7 @@ module _ (left : ℕ → ℕ) (us : List Unit) where
     },
   )
 
-  pub bringing-leaves : (a u v : ℕ) → ArrayTakes left (AquiferTransfer a u v) us → (u - 1 < 64) × Leaves left (getD us (u - 1) emptyUnit) 0 0 v 0
+  pub bringing-leaves : (a u v : ℕ) → UnitArrayTakes left (AquiferTransfer a u v) us → (u - 1 < 64) × Leaves left (getD us (u - 1) emptyUnit) 0 0 v 0
   bringing-leaves a u v f =
       rw (sub-one u) (
         omega (arith, f .imports .0, f .imports .1),

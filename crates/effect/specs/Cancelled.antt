@@ -12,7 +12,7 @@ use Rattle.model.specs.Entries.{placeOf}
 use Rattle.model.specs.View.{View, viewOf}
 use Rattle.titles.specs.Adds.{returnOf}
 use Rattle.effect.specs.Effect.{changedUnits, changedWells, changedView, changedBalance}
-use Rattle.effect.specs.Room.{ArrayTakes, ArrayWellsTake}
+use Rattle.effect.specs.Room.{UnitArrayTakes, WellArrayTakes}
 
 -- The title under a number.
 abbrev pub titleOf : View → ℕ → Title
@@ -43,10 +43,10 @@ held e = e
 
 -- What a title names is there, and the entries hold what it added: of the units, and of the aquifers.
 abbrev pub UnitsHeld : Title → List Unit → Type 0
-UnitsHeld t us = ArrayTakes held t us
+UnitsHeld t us = UnitArrayTakes held t us
 
 abbrev pub WellsHeld : Title → List Aquifer → Type 0
-WellsHeld t ws = ArrayWellsTake held t ws
+WellsHeld t ws = WellArrayTakes held t ws
 
 -- A title that can be taken back.
 pub record Takable (b : Balance) (t : Title) : Type 0 where

@@ -15,7 +15,7 @@ use Rattle.model.specs.Limits.{unitLimit, aquiferLimit, titleLimit, termLimit}
 use Rattle.titles.specs.Posting.{postings}
 use Rattle.titles.specs.Adds.{returnOf}
 use Rattle.effect.specs.Effect.{changedUnits, changedWells, changedView, changedBalance}
-use Rattle.effect.specs.Room.{Names, ArrayTakes, ArrayWellsTake}
+use Rattle.effect.specs.Room.{Names, UnitArrayTakes, WellArrayTakes}
 
 -- The view with a title in force: every entry raised by what it adds, and the title under the next number.
 abbrev pub granted : View → Title → View
@@ -49,10 +49,10 @@ lacking e = termLimit - e
 
 -- What a title names is there, and no entry that it raises passes the limit: of the units, and of the aquifers.
 abbrev pub UnitsFit : Title → List Unit → Type 0
-UnitsFit t us = ArrayTakes lacking t us
+UnitsFit t us = UnitArrayTakes lacking t us
 
 abbrev pub WellsFit : Title → List Aquifer → Type 0
-WellsFit t ws = ArrayWellsTake lacking t ws
+WellsFit t ws = WellArrayTakes lacking t ws
 
 -- A title that can be put in.
 pub record Grantable (b : Balance) (t : Title) : Type 0 where

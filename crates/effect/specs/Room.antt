@@ -40,11 +40,11 @@ abbrev pub WellsTake : (ℕ → ℕ) → ℕ → (ℕ → Aquifer) → Postings 
 WellsTake left count aquifer p = Takes left count (λ k. aquifer k .extraction) (p .wells)
 
 -- The same of the arrays of a balance.
-abbrev pub ArrayTakes : (ℕ → ℕ) → Title → List Unit → Type 0
-ArrayTakes left t us = UnitsTake left unitLimit (λ k. getD us k emptyUnit) (postings t (returnOf t))
+abbrev pub UnitArrayTakes : (ℕ → ℕ) → Title → List Unit → Type 0
+UnitArrayTakes left t us = UnitsTake left unitLimit (λ k. getD us k emptyUnit) (postings t (returnOf t))
 
-abbrev pub ArrayWellsTake : (ℕ → ℕ) → Title → List Aquifer → Type 0
-ArrayWellsTake left t ws = WellsTake left aquiferLimit (λ k. getD ws k emptyAquifer) (postings t (returnOf t))
+abbrev pub WellArrayTakes : (ℕ → ℕ) → Title → List Aquifer → Type 0
+WellArrayTakes left t ws = WellsTake left aquiferLimit (λ k. getD ws k emptyAquifer) (postings t (returnOf t))
 
 -- The four entries of one unit leave room for these amounts.
 pub record Leaves (left : ℕ → ℕ) (u : Unit) (extraction exports imports returns : ℕ) : Type 0 where
