@@ -8,7 +8,7 @@ use lib.IntN.{pos, negsuc}
 use native.Mathlib.Omega.{arith}
 use Rattle.laws.specs.Sum.{sumOf, every}
 use Rattle.laws.specs.Gather.{gather, gatherTo}
-use Rattle.laws.specs.Table.{table, tabulate}
+use Rattle.laws.specs.Table.{table, tabulate, indexed}
 use Rattle.model.specs.declared.Unit.{Unit}
 use Rattle.model.specs.declared.Place.{Place}
 use Rattle.model.specs.declared.Title.{Title}
@@ -118,7 +118,7 @@ unfolding printedBalance flow gather gatherTo sumOf committed committedTo every 
 first-water = refl
 
 pub first-reply : grantReply printedBalance firstTitle ≡ record { answer = Accepted; number = 1; balance = firstBalance }
-unfolding printedBalance firstBalance
+unfolding printedBalance firstBalance indexed
 first-reply = sym (reply-given printedBalance firstTitle printed-sound refl first-water)
 
 pub first-sound : sound (viewOf firstBalance) ≡ true
@@ -140,7 +140,7 @@ third-reply = sym (reply-dry firstBalance thirdTitle first-sound refl refl)
 
 -- Call 4 is given: the aquifer's availability falls to 0.
 pub fourth-reply : grantReply firstBalance fourthTitle ≡ record { answer = Accepted; number = 2; balance = lastBalance }
-unfolding firstBalance lastBalance
+unfolding firstBalance lastBalance indexed
 fourth-reply = sym (reply-given firstBalance fourthTitle first-sound refl refl)
 
 pub last-sound : sound (viewOf lastBalance) ≡ true
@@ -189,7 +189,7 @@ unfolding printedBalance flow gather gatherTo sumOf committed committedTo every 
 seven-water = refl
 
 seven-reply : grantReply printedBalance sevenTitle ≡ record { answer = Accepted; number = 1; balance = sevenBalance }
-unfolding printedBalance sevenBalance
+unfolding printedBalance sevenBalance indexed
 seven-reply = sym (reply-given printedBalance sevenTitle printed-sound refl seven-water)
 
 seven-sound : sound (viewOf sevenBalance) ≡ true
@@ -201,7 +201,7 @@ unfolding sevenBalance flow gather gatherTo sumOf committed committedTo every ou
 eight-water = refl
 
 eight-reply : grantReply sevenBalance eightTitle ≡ record { answer = Accepted; number = 2; balance = eightBalance }
-unfolding sevenBalance eightBalance
+unfolding sevenBalance eightBalance indexed
 eight-reply = sym (reply-given sevenBalance eightTitle seven-sound refl eight-water)
 
 eight-sound : sound (viewOf eightBalance) ≡ true
@@ -213,7 +213,7 @@ unfolding eightBalance flow gather gatherTo sumOf every
 eight-released = refl
 
 cancelled-reply : cancelReply eightBalance 2 ≡ record { answer = Accepted; number = 2; balance = cancelledBalance }
-unfolding eightBalance cancelledBalance
+unfolding eightBalance cancelledBalance indexed
 cancelled-reply = sym (reply-cancelled eightBalance 2 eight-sound refl eight-released)
 
 pub after-cancelled : after printedBalance (Grant sevenTitle ∷ Grant eightTitle ∷ Cancel 2 ∷ []) ≡ cancelledBalance

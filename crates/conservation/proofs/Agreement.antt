@@ -1,10 +1,11 @@
 -- The program's replies are the tally's, call by call. Assumes nothing.
 use Prim.Native.Nat.{ℕ, _+_}
-use mathlib.Core.Path.{_≡_, refl, sym, ap, _∙_}
+use mathlib.Core.Path.{_≡_, refl, sym, ap, subst, _∙_}
 use mathlib.Core.Logic.{_↔_}
 use mathlib.Core.Bool.{Bool, true, false, true≢false}
 use mathlib.Core.List.{List, [], _∷_, _++_}
 use native.Mathlib.Omega.{arith}
+use Rattle.model.specs.declared.Title.{Title}
 use Rattle.model.specs.declared.Call.{Call}
 use Rattle.model.specs.declared.Call.the-variants.{Grant, Cancel}
 use Rattle.model.specs.declared.Answer.the-variants.{Accepted, Refused}
@@ -13,14 +14,16 @@ use Rattle.model.specs.View.{View, viewOf}
 use Rattle.model.specs.Answers.{Refusal, none, number}
 use Rattle.book.specs.Reading.{Description, read, reading, opened}
 use Rattle.register.specs.declared.Reply.{Reply}
+use Rattle.effect.specs.Granted.{posted}
+use Rattle.effect.specs.Cancelled.{withoutTitle}
 use Rattle.refusal.specs.Grant.{grantRefusal}
 use Rattle.register.specs.Cancel.{cancelRefusal}
 use Rattle.register.specs.Reply.{afterTest, replied}
 use Rattle.register.specs.Calls.{callRefusal, callReply, after}
 use Rattle.register.proofs.Staying.{not-refused}
 use Rattle.register.proofs.Keeping as keeping
-use Rattle.conservation.specs.Demand3.{Tally, start, tallyRefusal, unlessRefused, tallied}
-use Rattle.conservation.specs.Replies.{Said, replies, numberFor, saying, sayings, counts, acceptances}
+use Rattle.conservation.specs.Demand3.{Tally, start, tallyRefusal, unlessRefused}
+use Rattle.conservation.specs.Replies.{Said, replies, numberFor, saying, sayings, counted, grants, Numbered}
 use Rattle.conservation.proofs.Following.{Follows, changed, carried, replied-to, same-refusal, follows-start, follows-call}
 
 -- What a reply says.
@@ -58,17 +61,40 @@ replies-agree s d at e = followed d (opened s .balance) start (follows-start s d
 pub refused-keeps : (b : Balance) (c : Call) (n : ℕ) → callReply b c .answer ≡ Refused n → (callReply b c .balance ≡ b) × (callReply b c .number ≡ 0)
 refused-keeps = keeping.refused-keeps
 
-one-count : (r : Refusal) (t : Tally) (c : Call) → unlessRefused r t c .last ≡ t .last + counts r c
-one-count none t (Grant x) = omega arith
-one-count none t (Cancel n) = omega arith
-one-count (number k) t c = omega arith
+-- An accepted grant gives one number more, and no other call does.
+grant-counts : (r : Refusal) (b : Balance) (x : Title) (n : ℕ)
+    → replied r b (posted b x) n .balance .given ≡ b .given + counted (Grant x) (replied r b (posted b x) n .answer)
+grant-counts none b x n = refl
+grant-counts (number k) b x n = omega arith
 
--- The last number counts the grants that were accepted; a cancellation neither gives a number nor frees one.
-pub numbers-count : (d : Description) (t : Tally) (cs : List Call) → tallied d t cs .last ≡ t .last + acceptances d t cs
-unfolding tallied acceptances
-numbers-count d t [] = omega arith
-numbers-count d t (c ∷ cs) =
-    omega (arith, numbers-count d (unlessRefused (tallyRefusal d t c) t c) cs, one-count (tallyRefusal d t c) t c)
+cancel-counts : (r : Refusal) (b : Balance) (m n : ℕ) → replied r b (withoutTitle b m) n .balance .given ≡ b .given + 0
+cancel-counts none b m n = omega arith
+cancel-counts (number k) b m n = omega arith
+
+call-counts : (b : Balance) (c : Call) → callReply b c .balance .given ≡ b .given + counted c (callReply b c .answer)
+call-counts b (Grant x) = grant-counts (afterTest b (grantRefusal (viewOf b) x)) b x (b .given + 1)
+call-counts b (Cancel n) = cancel-counts (afterTest b (cancelRefusal (viewOf b) n)) b n n
+
+calls-count : (b : Balance) (cs : List Call) → after b cs .given ≡ b .given + grants cs (replies b cs)
+unfolding after replies grants
+calls-count b [] = omega arith
+calls-count b (c ∷ cs) = omega (arith, calls-count (callReply b c .balance) cs, call-counts b c)
+
+-- On every balance and every list of calls, the numbers count the grants that the program accepts; a cancellation neither gives a number nor
+-- frees one.
+pub numbers-count : (b : Balance) (cs : List Call) → Numbered (b .given) b cs
+numbers-count b cs =
+    record {
+      last = calls-count b cs;
+      next = λ x e. omega (arith, keeping.accepted-number (after b cs) (Grant x) e, calls-count b cs);
+      asked = λ n e. keeping.accepted-number (after b cs) (Cancel n) e;
+    }
+
+-- On every accepted book they count them from 1.
+pub numbers-count-from-1 : (s : List ℕ) (d : Description) (at : ℕ) → reading s ≡ read d at → (cs : List Call) → Numbered 0 (opened s .balance) cs
+numbers-count-from-1 s d at e cs =
+    let b = opened s .balance in
+    subst (λ (n : ℕ). Numbered n b cs) (ap (λ (v : View). v .given) (follows-start s d at e .same)) (numbers-count b cs)
 
 -- A call after a list of calls gets the balance that the call before returned.
 pub after-list : (b : Balance) (cs : List Call) (c : Call) → after b (cs ++ (c ∷ [])) ≡ callReply (after b cs) c .balance

@@ -3,27 +3,28 @@ use Prim.Native.Nat.{ℕ, suc, pred, _+_, _-_, _≤_}
 use mathlib.Core.Path.{_≡_, refl, sym, ap, subst, subst⁻¹, _∙_}
 use mathlib.Core.Bool.{Bool, true, false, not, true≢false}
 use mathlib.Core.List.{List, [], _∷_}
-use lib.ListN.{length, length-set, length-replicate, List·getD-eq-default}
+use lib.ListN.{length, length-replicate, List·getD-eq-default}
 use native.Mathlib.Omega.{arith}
 use borrow.Author.Tests.{eq-eqb, ne-eqb, not-false}
 use Rattle.laws.proofs.Cases.{by-lt, by-eq}
+use Rattle.laws.specs.Sum.{naturals, sumOf, only}
 use Rattle.laws.proofs.Arrays.{getD-empty, table-filled}
+use Rattle.laws.proofs.Putting.{put-read, put-holds, sum-put, sum-put-next}
 use Rattle.model.specs.declared.Unit.{Unit}
 use Rattle.model.specs.declared.Aquifer.{Aquifer}
 use Rattle.model.specs.declared.Place.{Place}
 use Rattle.model.specs.declared.Title.{Title}
-use Rattle.model.specs.declared.Title.the-variants.{UnitWithdrawal, AquiferWithdrawal, UnitTransfer, AquiferTransfer}
 use Rattle.model.specs.declared.Call.{Call}
 use Rattle.model.specs.declared.Call.the-variants.{Grant, Cancel}
 use Rattle.model.specs.declared.Balance.{Balance}
+use Rattle.model.specs.Entries.{withEntries, withExtraction}
 use Rattle.model.specs.Fresh.{emptyUnit, emptyAquifer, emptyPlace}
 use Rattle.model.specs.View.{View, viewOf}
 use Rattle.model.specs.Answers.{Refusal, none, number, refuse}
 use Rattle.runoff.specs.Mean.{rounded}
 use Rattle.titles.specs.declared.Slot.{Slot}
 use Rattle.titles.specs.declared.Slot.the-variants.{Extraction, Exports, Imports, Returns, WellExtraction}
-use Rattle.titles.specs.Adds.{adds, placeAdds}
-use Rattle.titles.proofs.Adding.{places-none, place-granted}
+use Rattle.titles.specs.Adds.{returnOf, adds}
 use Rattle.basin.specs.Sound.{sound, flowing}
 use Rattle.basin.proofs.Soundness.{soundness}
 use Rattle.runoff.specs.Record.{areaOf, weightedOf, yearsSum}
@@ -31,52 +32,35 @@ use Rattle.record.specs.Described.{unitOf, noUnit}
 use Rattle.book.specs.Reading.{Description, balanceOf, read, reading, opened}
 use Rattle.book.proofs.Promises.{opening-sound, accepted-exactly}
 use Rattle.register.specs.declared.Reply.{Reply}
-use Rattle.effect.specs.Effect.{unexported, changeUnit}
-use Rattle.effect.specs.Granted.{granted, raiseAt, posted, postedUnits, postedWells, Sized}
+use Rattle.effect.specs.Granted.{granted, posted, Sized}
 use Rattle.refusal.specs.Grant.{noWater, grantRefusal}
 use Rattle.register.specs.Reply.{replied}
-use Rattle.effect.specs.Cancelled.{titleOf, cancelled, loweredUnits, loweredWells, withoutTitle}
+use Rattle.effect.specs.Cancelled.{titleOf, cancelled, withoutTitle}
 use Rattle.register.specs.Cancel.{inForce, cancelRefusal}
 use Rattle.register.specs.Calls.{callRefusal, callReply, after}
 use Rattle.refusal.specs.Steps.{earlyNumber}
 use Rattle.refusal.proofs.Granting.{judged, grant-judged}
-use Rattle.effect.proofs.Posting.{posted-view}
+use Rattle.effect.proofs.Changing.{changed-sized, posted-view}
 use Rattle.register.proofs.Replies.{grantable-of}
 use Rattle.register.proofs.Staying.{granted-sound}
-use Rattle.register.proofs.Cancelling.{InForce, in-force-of, one-less, without-view}
+use Rattle.register.proofs.Cancelling.{InForce, in-force-of, cancelled-view}
 use Rattle.register.proofs.Leaving.{cancelled-sound}
-use Rattle.conservation.specs.Demand3.{Tally, start, baseUnit, baseAquifer, added, entries, accepting, tallyRefusal, unlessRefused, tallied}
+use Rattle.conservation.specs.Demand3.{Tally, start, baseUnit, baseAquifer, enteredAdds, added, standing, entries, entering, leaving, accepting, tallyRefusal, unlessRefused, tallied}
 
--- A balance follows a tally: its arrays have their full length, its view is the tally's, and it is sound.
+-- A balance follows a tally: its arrays have their full length, its view is the tally's, and it is sound; and the tally keeps with each
+-- title the return that the title has.
 pub record Follows (d : Description) (b : Balance) (t : Tally) : Type 0 where
   pub sized : Sized b
   pub same : viewOf b ≡ entries d t
   pub stands : sound (viewOf b) ≡ true
+  pub kept : (k : ℕ) → t .place k .back ≡ returnOf (t .place k .title)
 
 -- The view over a description in which an entry is worked from its base, with so many numbers given and these places.
 abbrev unitBy : (Slot → ℕ → ℕ) → Unit → Unit
-unitBy f u =
-    record {
-      downstream = u .downstream;
-      extraction = f Extraction (u .extraction);
-      exports = f Exports (u .exports);
-      imports = f Imports (u .imports);
-      returns = f Returns (u .returns);
-      evaporation = u .evaporation;
-      storage = u .storage;
-      commitment = u .commitment;
-      runoff = u .runoff;
-    }
+unitBy f u = withEntries u (f Extraction (u .extraction)) (f Exports (u .exports)) (f Imports (u .imports)) (f Returns (u .returns))
 
 abbrev aquiferBy : (Slot → ℕ → ℕ) → Aquifer → Aquifer
-aquiferBy f a =
-    record {
-      storage = a .storage;
-      natural = a .natural;
-      pumped = a .pumped;
-      committed = a .committed;
-      extraction = f WellExtraction (a .extraction);
-    }
+aquiferBy f a = withExtraction a (f WellExtraction (a .extraction))
 
 abbrev viewBy : Description → (ℕ → Slot → ℕ → ℕ) → ℕ → (ℕ → Place) → View
 viewBy d f given place =
@@ -92,7 +76,8 @@ viewBy d f given place =
 -- The tally starts with the base entries.
 module _ (d : Description) where
   none-added : (j : ℕ) (s : Slot) (x : ℕ) → x ≡ x + added start s j
-  none-added j s x = omega (arith, places-none s j (start .place))
+  unfolding sumOf
+  none-added j s x = omega arith
 
   -- Past the last unit the base entries are those of an empty place.
   no-unit : emptyUnit ≡ unitOf noUnit
@@ -136,6 +121,7 @@ module _ (d : Description) where
             };
         same = opened-view (s .few-units) (s .few-aquifers) ∙ (λ i. viewBy d (λ j s x. none-added j s x i) 0 (λ k. emptyPlace));
         stands = e;
+        kept = λ k. refl;
       }
 
 -- Opening an accepted book hands out a balance that follows the tally at its start.
@@ -145,67 +131,43 @@ follows-start s d at e =
     subst⁻¹ (λ (b : Balance). Follows d b start) q
     (opened-follows d (subst (λ (b : Balance). sound (viewOf b) ≡ true) q (opening-sound s)))
 
--- The arrays keep their length.
-posted-units : (t : Title) (us : List Unit) → length (postedUnits t us) ≡ length us
-posted-units (UnitWithdrawal u r x) us = length-set us (pred u) _
-posted-units (AquiferWithdrawal a x) us = refl
-posted-units (UnitTransfer g r x) us = length-set (raiseAt (UnitTransfer g r x) g us) (pred r) _ ∙ length-set us (pred g) _
-posted-units (AquiferTransfer a u x) us = length-set us (pred u) _
-
-posted-wells : (t : Title) (ws : List Aquifer) → length (postedWells t ws) ≡ length ws
-posted-wells (UnitWithdrawal u r x) ws = refl
-posted-wells (AquiferWithdrawal a x) ws = length-set ws (pred a) _
-posted-wells (UnitTransfer g r x) ws = refl
-posted-wells (AquiferTransfer a u x) ws = length-set ws (pred a) _
-
-lowered-units : (t : Title) (us : List Unit) → length (loweredUnits t us) ≡ length us
-lowered-units (UnitWithdrawal u r x) us = length-set us (pred u) _
-lowered-units (AquiferWithdrawal a x) us = refl
-lowered-units (UnitTransfer g r x) us = length-set (changeUnit g (λ w. unexported w x) us) (pred r) _ ∙ length-set us (pred g) _
-lowered-units (AquiferTransfer a u x) us = length-set us (pred u) _
-
-lowered-wells : (t : Title) (ws : List Aquifer) → length (loweredWells t ws) ≡ length ws
-lowered-wells (UnitWithdrawal u r x) ws = refl
-lowered-wells (AquiferWithdrawal a x) ws = length-set ws (pred a) _
-lowered-wells (UnitTransfer g r x) ws = refl
-lowered-wells (AquiferTransfer a u x) ws = length-set ws (pred a) _
-
-posted-sized : (b : Balance) (x : Title) → Sized b → Sized (posted b x)
-posted-sized b x z =
-    record {
-      units = posted-units x (b .units) ∙ z .units;
-      aquifers = posted-wells x (b .aquifers) ∙ z .aquifers;
-      titles = length-set (b .titles) (b .given) _ ∙ z .titles;
-    }
-
-without-sized : (b : Balance) (n : ℕ) → Sized b → Sized (withoutTitle b n)
-without-sized b n z =
-    record {
-      units = lowered-units (titleOf (viewOf b) n) (b .units) ∙ z .units;
-      aquifers = lowered-wells (titleOf (viewOf b) n) (b .aquifers) ∙ z .aquifers;
-      titles = length-set (b .titles) (pred n) _ ∙ z .titles;
-    }
-
 -- The tally's entries with one title more are its entries with that title granted.
 module _ (d : Description) (t : Tally) (x : Title) where
-  one-added : (s : Slot) (j : ℕ) → added (accepting t (Grant x)) s j ≡ added t s j + adds x s j
-  one-added s j =
-      place-granted s j (t .last) (t .place) (accepting t (Grant x) .place) x (λ m h. rw (ne-eqb m (t .last) (omega arith)) refl)
-      (rw (eq-eqb (t .last) (t .last) refl) refl)
-
-  one-more : (j : ℕ) (s : Slot) (base : ℕ) → base + added t s j + adds x s j ≡ base + added (accepting t (Grant x)) s j
-  one-more j s base = omega (arith, one-added s j)
+  one-more : (j : ℕ) (s : Slot) (base : ℕ) → base + added t s j + adds x (returnOf x) s j ≡ base + added (accepting t (Grant x)) s j
+  one-more j s base = omega (arith, sum-put-next (λ e. enteredAdds e s j) (t .place) (t .last) (entering x))
 
   granted-entries : granted (entries d t) x ≡ entries d (accepting t (Grant x))
-  granted-entries = λ i. viewBy d (λ j s base. one-more j s base i) (suc (t .last)) (accepting t (Grant x) .place)
+  granted-entries = λ i.
+      viewBy d (λ j s base. one-more j s base i) (suc (t .last)) (λ k. put-read standing (t .place) (t .last) (entering x) k i)
+
+  granted-kept : ((k : ℕ) → t .place k .back ≡ returnOf (t .place k .title))
+      → (k : ℕ) → accepting t (Grant x) .place k .back ≡ returnOf (accepting t (Grant x) .place k .title)
+  granted-kept h k = put-holds (λ e. e .back ≡ returnOf (e .title)) (t .place) (t .last) (entering x) refl h k
 
 -- The tally's entries without the title under a number are its entries with that title cancelled.
-module _ (d : Description) (t : Tally) (n : ℕ) (f : InForce (entries d t) n) where
-  one-fewer : (j : ℕ) (s : Slot) (base : ℕ) → base + added t s j - adds (t .place (pred n) .title) s j ≡ base + added (accepting t (Cancel n)) s j
-  one-fewer j s base = omega (arith, one-less (entries d t) n f s j)
+module _ (d : Description) (t : Tally) (n : ℕ) (f : InForce (entries d t) n) (kept : (k : ℕ) → t .place k .back ≡ returnOf (t .place k .title)) where
+  abbrev title : Title
+  title = t .place (pred n) .title
+
+  -- What the title added, by the return that was kept with it.
+  taken : (s : Slot) (j : ℕ) → enteredAdds (t .place (pred n)) s j ≡ adds title (returnOf title) s j
+  taken s j = (λ i. only naturals (f .stands i) (adds title (kept (pred n) i) s j))
+
+  one-fewer : (j : ℕ) (s : Slot) (base : ℕ) → base + added t s j - adds title (returnOf title) s j ≡ base + added (accepting t (Cancel n)) s j
+  one-fewer j s base =
+      omega (
+        arith,
+        sum-put (λ e. enteredAdds e s j) (t .place) (t .last) (pred n) (leaving (t .place (pred n))) (omega (arith, f .given .positive, f .given .within)),
+        taken s j,
+      )
 
   cancelled-entries : cancelled (entries d t) n ≡ entries d (accepting t (Cancel n))
-  cancelled-entries = λ i. viewBy d (λ j s base. one-fewer j s base i) (t .last) (accepting t (Cancel n) .place)
+  cancelled-entries = λ i.
+      viewBy d (λ j s base. one-fewer j s base i) (t .last) (λ k. put-read standing (t .place) (pred n) (leaving (t .place (pred n))) k i)
+
+  cancelled-kept : (k : ℕ) → accepting t (Cancel n) .place k .back ≡ returnOf (accepting t (Cancel n) .place k .title)
+  cancelled-kept k =
+      put-holds (λ e. e .back ≡ returnOf (e .title)) (t .place) (pred n) (leaving (t .place (pred n))) (kept (pred n)) kept k
 
 -- What the absence of a refusal says.
 abbrev is-none : Refusal → Bool
@@ -259,20 +221,23 @@ module _ (d : Description) (b : Balance) (t : Tally) (f : Follows d b t) where
       let p = grant-unrefused (viewOf b) x e in
       let q = posted-view b x (f .sized) (grantable-of b x (f .stands) (p .0)) in
       record {
-        sized = posted-sized b x (f .sized);
+        sized = changed-sized _+_ x b (b .given + 1) (b .given) _ (f .sized);
         same = q ∙ ap (λ (v : View). granted v x) (f .same) ∙ granted-entries d t x;
         stands = subst⁻¹ (λ (v : View). sound v ≡ true) q (granted-sound (viewOf b) x (f .stands) (p .0) (p .1));
+        kept = granted-kept d t x (f .kept);
       }
 
   cancelled-follows : (n : ℕ) → cancelRefusal (viewOf b) n ≡ none → Follows d (withoutTitle b n) (accepting t (Cancel n))
   cancelled-follows n e =
       let p = cancel-unrefused (viewOf b) n e in
       let g = in-force-of (viewOf b) n (p .0) in
-      let q = without-view b n (f .sized) (soundness (viewOf b) (f .stands)) g in
+      let q = cancelled-view b n (soundness (viewOf b) (f .stands)) g (f .sized) in
+      let h = subst (λ (v : View). InForce v n) (f .same) g in
       record {
-        sized = without-sized b n (f .sized);
-        same = q ∙ ap (λ (v : View). cancelled v n) (f .same) ∙ cancelled-entries d t n (subst (λ (v : View). InForce v n) (f .same) g);
+        sized = changed-sized _-_ (titleOf (viewOf b) n) b (b .given) (pred n) _ (f .sized);
+        same = q ∙ ap (λ (v : View). cancelled v n) (f .same) ∙ cancelled-entries d t n h (f .kept);
         stands = subst⁻¹ (λ (v : View). sound v ≡ true) q (cancelled-sound (viewOf b) n (f .stands) (p .0) (p .1));
+        kept = cancelled-kept d t n h (f .kept);
       }
 
   accepted-follows : (c : Call) → callRefusal (viewOf b) c ≡ none → Follows d (changed b c) (accepting t c)

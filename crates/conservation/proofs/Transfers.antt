@@ -9,11 +9,10 @@ use Rattle.laws.specs.Sum.{naturals, sumOf, only}
 use Rattle.laws.proofs.Gathering.{sum-same, sum-plus}
 use Rattle.model.specs.declared.Title.{Title}
 use Rattle.model.specs.declared.Title.the-variants.{UnitWithdrawal, AquiferWithdrawal, UnitTransfer, AquiferTransfer}
-use Rattle.model.specs.declared.Place.{Place}
 use Rattle.titles.specs.declared.Slot.the-variants.{Exports, Imports}
-use Rattle.titles.specs.Adds.{adds, placeAdds}
+use Rattle.titles.specs.Adds.{adds}
 use Rattle.basin.proofs.Soundness.{Exists, TitleSound, PlaceSound}
-use Rattle.conservation.specs.Demand3.{broughtBy, brought}
+use Rattle.conservation.specs.Demand3.{Entered, enteredAdds, standing, broughtBy, brought}
 use Rattle.conservation.proofs.Sums.{sum-zero, sum-single, sum-swap, only-is, only-not}
 
 -- A volume at a unit that exists counts once.
@@ -26,12 +25,12 @@ none : (units : ℕ) → sumOf naturals units (λ j. 0) ≡ 0
 none units = sum-zero units (λ j. 0) (λ j h. refl)
 
 -- What a title adds to the imports is what it adds to the exports and what it brings from an aquifer.
-title-balance : (units aquifers : ℕ) (t : Title) → TitleSound units aquifers t
-    → sumOf naturals units (λ j. adds t Imports j) ≡ sumOf naturals units (λ j. adds t Exports j) + broughtBy t
-title-balance units aquifers (UnitWithdrawal u r x) s = omega (arith, none units)
-title-balance units aquifers (AquiferWithdrawal a x) s = omega (arith, none units)
-title-balance units aquifers (UnitTransfer g r x) s = omega (arith, at-one units g x (s .0), at-one units r x (s .1))
-title-balance units aquifers (AquiferTransfer a u x) s = omega (arith, none units, at-one units u x (s .1))
+title-balance : (units aquifers : ℕ) (t : Title) (back : ℕ) → TitleSound units aquifers t
+    → sumOf naturals units (λ j. adds t back Imports j) ≡ sumOf naturals units (λ j. adds t back Exports j) + broughtBy t
+title-balance units aquifers (UnitWithdrawal u r x) back s = omega (arith, none units)
+title-balance units aquifers (AquiferWithdrawal a x) back s = omega (arith, none units)
+title-balance units aquifers (UnitTransfer g r x) back s = omega (arith, at-one units g x (s .0), at-one units r x (s .1))
+title-balance units aquifers (AquiferTransfer a u x) back s = omega (arith, none units, at-one units u x (s .1))
 
 -- The same under the test that the title is in force.
 test-balance : (t : Bool) (n b : ℕ) (x y : ℕ → ℕ) → (t ≡ true → sumOf naturals n x ≡ sumOf naturals n y + b)
@@ -39,19 +38,19 @@ test-balance : (t : Bool) (n b : ℕ) (x y : ℕ → ℕ) → (t ≡ true → su
 test-balance true n b x y e = e refl
 test-balance false n b x y e = omega arith
 
-place-balance : (units aquifers : ℕ) (p : Place) → PlaceSound units aquifers p
-    → sumOf naturals units (λ j. placeAdds p Imports j)
-    ≡ sumOf naturals units (λ j. placeAdds p Exports j) + only naturals (p .«in_force») (broughtBy (p .title))
-place-balance units aquifers p s =
-    test-balance (p .«in_force») units (broughtBy (p .title)) (λ j. adds (p .title) Imports j) (λ j. adds (p .title) Exports j)
-    (λ e. title-balance units aquifers (p .title) (s .in-force e))
+entered-balance : (units aquifers : ℕ) (e : Entered) → PlaceSound units aquifers (standing e)
+    → sumOf naturals units (λ j. enteredAdds e Imports j)
+    ≡ sumOf naturals units (λ j. enteredAdds e Exports j) + only naturals (e .inForce) (broughtBy (e .title))
+entered-balance units aquifers e s =
+    test-balance (e .inForce) units (broughtBy (e .title)) (λ j. adds (e .title) (e .back) Imports j) (λ j. adds (e .title) (e .back) Exports j)
+    (λ q. title-balance units aquifers (e .title) (e .back) (s .in-force q))
 
 -- What the titles import together is what they export together and what they bring from aquifers.
-pub transfers-balance : (units aquifers : ℕ) (place : ℕ → Place) (n : ℕ) → ((k : ℕ) → k < n → PlaceSound units aquifers (place k))
-    → sumOf naturals units (λ j. sumOf naturals n (λ k. placeAdds (place k) Imports j))
-    ≡ sumOf naturals units (λ j. sumOf naturals n (λ k. placeAdds (place k) Exports j)) + brought place n
+pub transfers-balance : (units aquifers : ℕ) (place : ℕ → Entered) (n : ℕ) → ((k : ℕ) → k < n → PlaceSound units aquifers (standing (place k)))
+    → sumOf naturals units (λ j. sumOf naturals n (λ k. enteredAdds (place k) Imports j))
+    ≡ sumOf naturals units (λ j. sumOf naturals n (λ k. enteredAdds (place k) Exports j)) + brought place n
 transfers-balance units aquifers place n s =
-    sum-swap units n (λ j k. placeAdds (place k) Imports j)
-    ∙ sum-same naturals n _ _ (λ k h. place-balance units aquifers (place k) (s k h))
-    ∙ sum-plus n (λ k. sumOf naturals units (λ j. placeAdds (place k) Exports j)) (λ k. only naturals (place k .«in_force») (broughtBy (place k .title)))
-    ∙ ap (λ (s : ℕ). s + brought place n) (sum-swap n units (λ k j. placeAdds (place k) Exports j))
+    sum-swap units n (λ j k. enteredAdds (place k) Imports j)
+    ∙ sum-same naturals n _ _ (λ k h. entered-balance units aquifers (place k) (s k h))
+    ∙ sum-plus n (λ k. sumOf naturals units (λ j. enteredAdds (place k) Exports j)) (λ k. only naturals (place k .inForce) (broughtBy (place k .title)))
+    ∙ ap (λ (s : ℕ). s + brought place n) (sum-swap n units (λ k j. enteredAdds (place k) Exports j))

@@ -2,7 +2,7 @@
 -- proofs/Promise. Units and aquifers are given by their index: number n stands at index n - 1. Assumes nothing.
 use Prim.Native.Nat.{ℕ, zero, suc, pred, _+_, _*_, _/_, _%_, _≤_, _<_}
 use mathlib.Core.Path.{_≡_}
-use mathlib.Core.Bool.{Bool, true, false, cond, _||_}
+use mathlib.Core.Bool.{Bool, true, false, _||_}
 use mathlib.Core.List.{List, [], _∷_}
 use lib.Dec.{eqb}
 use lib.IntN.{ℤ, pos, negsuc, negℤ, _+ℤ_, _-ℤ_}
@@ -10,6 +10,7 @@ use lib.ListN.{length, getD}
 use Rattle.laws.specs.Sum.{naturals, integers, sumOf, only}
 use Rattle.laws.specs.Signed.{above, below}
 use Rattle.laws.specs.Gather.{gather}
+use Rattle.laws.specs.Table.{putAt}
 use Rattle.model.specs.declared.Unit.{Unit}
 use Rattle.model.specs.declared.Aquifer.{Aquifer}
 use Rattle.model.specs.declared.Title.{Title}
@@ -19,6 +20,7 @@ use Rattle.model.specs.declared.Call.{Call}
 use Rattle.model.specs.declared.Call.the-variants.{Grant, Cancel}
 use Rattle.model.specs.declared.Answer.the-variants.{Accepted}
 use Rattle.model.specs.declared.Balance.{Balance}
+use Rattle.model.specs.Entries.{withEntries, withExtraction, placeOf}
 use Rattle.model.specs.Fresh.{emptyAquifer, emptyPlace}
 use Rattle.model.specs.View.{View, viewOf}
 use Rattle.model.specs.Answers.{Refusal, none, number}
@@ -26,7 +28,7 @@ use Rattle.runoff.specs.Mean.{divisor}
 use Rattle.runoff.specs.Record.{sumOn, gaugedOn}
 use Rattle.titles.specs.declared.Slot.{Slot}
 use Rattle.titles.specs.declared.Slot.the-variants.{Extraction, Exports, Imports, Returns, WellExtraction}
-use Rattle.titles.specs.Adds.{placeAdds}
+use Rattle.titles.specs.Adds.{returnOf, adds}
 use Rattle.river.specs.Flow.{downstream}
 use Rattle.figures.specs.Figures.{noUnitFigures, allUnitFigures, allAquiferFigures}
 use Rattle.basin.specs.declared.Figures.{Figures}
@@ -36,14 +38,23 @@ use Rattle.record.specs.Described.{DescribedUnit, noUnit, unitOf}
 use Rattle.book.specs.Reading.{Description}
 use Rattle.register.specs.Calls.{callRefusal, after}
 
--- The tally: the last number, and under each number a title and whether it is in force.
+-- A title as the tally keeps it: its fields, its return, and whether it is in force.
+pub record Entered : Type 0 where
+  pub title : Title
+  pub back : ℕ
+  pub inForce : Bool
+
+-- The tally: the last number, and the title under each number.
 pub record Tally : Type 0 where
   pub last : ℕ
-  pub place : ℕ → Place
+  pub place : ℕ → Entered
 
 -- It starts with no titles and 0 as last number.
+abbrev pub noTitle : Entered
+noTitle = record { title = emptyPlace .title; back = 0; inForce = false }
+
 abbrev pub start : Tally
-start = record { last = 0; place = λ k. emptyPlace }
+start = record { last = 0; place = λ k. noTitle }
 
 -- Each unit's base entries (the fields of its UN) and natural runoff, and each aquifer's AC, as the description has them.
 abbrev pub baseUnit : Description → ℕ → Unit
@@ -52,34 +63,26 @@ baseUnit d j = unitOf (getD (d .units) j noUnit)
 abbrev pub baseAquifer : Description → ℕ → Aquifer
 baseAquifer d j = getD (d .aquifers) j emptyAquifer
 
--- What the titles in force add together to an entry.
+-- What the titles in force add together to an entry, each by its fields and the return that was kept with it.
+abbrev pub enteredAdds : Entered → Slot → ℕ → ℕ
+enteredAdds e s j = only naturals (e .inForce) (adds (e .title) (e .back) s j)
+
 abbrev pub added : Tally → Slot → ℕ → ℕ
-added t s j = sumOf naturals (t .last) (λ k. placeAdds (t .place k) s j)
+added t s j = sumOf naturals (t .last) (λ k. enteredAdds (t .place k) s j)
 
 -- An entry is its base plus what the titles in force add to it.
 abbrev pub unitEntries : Description → Tally → ℕ → Unit
 unitEntries d t j =
-    record {
-      downstream = baseUnit d j .downstream;
-      extraction = baseUnit d j .extraction + added t Extraction j;
-      exports = baseUnit d j .exports + added t Exports j;
-      imports = baseUnit d j .imports + added t Imports j;
-      returns = baseUnit d j .returns + added t Returns j;
-      evaporation = baseUnit d j .evaporation;
-      storage = baseUnit d j .storage;
-      commitment = baseUnit d j .commitment;
-      runoff = baseUnit d j .runoff;
-    }
+    let base = baseUnit d j in
+    withEntries base (base .extraction + added t Extraction j) (base .exports + added t Exports j) (base .imports + added t Imports j)
+    (base .returns + added t Returns j)
 
 abbrev pub aquiferEntries : Description → Tally → ℕ → Aquifer
-aquiferEntries d t j =
-    record {
-      storage = baseAquifer d j .storage;
-      natural = baseAquifer d j .natural;
-      pumped = baseAquifer d j .pumped;
-      committed = baseAquifer d j .committed;
-      extraction = baseAquifer d j .extraction + added t WellExtraction j;
-    }
+aquiferEntries d t j = withExtraction (baseAquifer d j) (baseAquifer d j .extraction + added t WellExtraction j)
+
+-- The place of the register that a title of the tally stands for.
+abbrev pub standing : Entered → Place
+standing e = placeOf (e .title) (e .inForce)
 
 -- The tally's entries, titles and last number: what the refusals and the figures are defined over.
 abbrev pub entries : Description → Tally → View
@@ -90,18 +93,20 @@ entries d t =
       aquifers = length (d .aquifers);
       aquifer = aquiferEntries d t;
       given = t .last;
-      place = t .place;
+      place = λ k. standing (t .place k);
     }
+
+-- A title that is entered, in force, with its return; and one that is taken out of force, with all else as it was.
+abbrev pub entering : Title → Entered
+entering x = record { title = x; back = returnOf x; inForce = true }
+
+abbrev pub leaving : Entered → Entered
+leaving e = record { title = e .title; back = e .back; inForce = false }
 
 -- An accepted grant raises the last number by one and puts a title under it in force; a cancellation takes its title out of force.
 abbrev pub accepting : Tally → Call → Tally
-accepting t (Grant x) =
-    record { last = suc (t .last); place = λ k. cond (eqb k (t .last)) (record { title = x; «in_force» = true }) (t .place k) }
-accepting t (Cancel n) =
-    record {
-      last = t .last;
-      place = λ k. cond (eqb k (pred n)) (record { title = t .place (pred n) .title; «in_force» = false }) (t .place k);
-    }
+accepting t (Grant x) = record { last = suc (t .last); place = putAt (t .place) (t .last) (entering x) }
+accepting t (Cancel n) = record { last = t .last; place = putAt (t .place) (pred n) (leaving (t .place (pred n))) }
 
 -- A call is refused when a refusal listed for it, leaving out 0, holds of these entries, titles and last number; then nothing changes.
 abbrev pub tallyRefusal : Description → Tally → Call → Refusal
@@ -127,8 +132,8 @@ broughtBy (AquiferWithdrawal a x) = 0
 broughtBy (UnitTransfer g r x) = 0
 broughtBy (AquiferTransfer a u x) = x
 
-abbrev pub brought : (ℕ → Place) → ℕ → ℕ
-brought place n = sumOf naturals n (λ k. only naturals (place k .«in_force») (broughtBy (place k .title)))
+abbrev pub brought : (ℕ → Entered) → ℕ → ℕ
+brought place n = sumOf naturals n (λ k. only naturals (place k .inForce) (broughtBy (place k .title)))
 
 -- The units at or above unit j are j and all that j lies below.
 abbrev pub atOrAbove : View → ℕ → ℕ → Bool

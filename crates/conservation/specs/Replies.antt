@@ -1,12 +1,15 @@
 -- What the program and the tally say of each call of a list. Assumes nothing.
 use Prim.Native.Nat.{ℕ, suc, _+_}
+use mathlib.Core.Path.{_≡_}
 use mathlib.Core.List.{List, [], _∷_}
 use Rattle.model.specs.declared.Answer.{Answer}
+use Rattle.model.specs.declared.Answer.the-variants.{Accepted, Refused}
+use Rattle.model.specs.declared.Title.{Title}
 use Rattle.model.specs.declared.Call.{Call}
 use Rattle.model.specs.declared.Call.the-variants.{Grant, Cancel}
 use Rattle.model.specs.declared.Balance.{Balance}
 use Rattle.model.specs.Answers.{Refusal, none, number, answered}
-use Rattle.register.specs.Calls.{callReply}
+use Rattle.register.specs.Calls.{callReply, after}
 use Rattle.book.specs.Reading.{Description}
 use Rattle.conservation.specs.Demand3.{Tally, tallyRefusal, unlessRefused}
 
@@ -36,13 +39,21 @@ sayings d t [] = []
 sayings d t (c ∷ cs) =
     saying (tallyRefusal d t c) (numberFor t c) ∷ sayings d (unlessRefused (tallyRefusal d t c) t c) cs
 
--- How many grants of a list are accepted.
-abbrev pub counts : Refusal → Call → ℕ
-counts none (Grant x) = 1
-counts none (Cancel n) = 0
-counts (number k) c = 0
+-- How many grants of a list were accepted, by the calls and by what was said of each.
+abbrev pub counted : Call → Answer → ℕ
+counted (Grant x) Accepted = 1
+counted (Grant x) (Refused k) = 0
+counted (Cancel n) a = 0
 
-unfoldable pub acceptances : Description → Tally → List Call → ℕ
-acceptances d t [] = 0
-acceptances d t (c ∷ cs) =
-    counts (tallyRefusal d t c) c + acceptances d (unlessRefused (tallyRefusal d t c) t c) cs
+unfoldable pub grants : List Call → List Said → ℕ
+grants [] said = 0
+grants (c ∷ cs) [] = 0
+grants (c ∷ cs) (s ∷ said) = counted c (s .answer) + grants cs said
+
+-- The numbers after a list of calls on a balance of which so many were given: as many more are given as grants of the list were accepted. A
+-- grant that is accepted next tells the number after those, and a cancellation that is accepted next the number that it asks for.
+pub record Numbered (given : ℕ) (b : Balance) (calls : List Call) : Type 0 where
+  pub last : after b calls .given ≡ given + grants calls (replies b calls)
+  pub next : (x : Title) → callReply (after b calls) (Grant x) .answer ≡ Accepted
+      → callReply (after b calls) (Grant x) .number ≡ suc (given + grants calls (replies b calls))
+  pub asked : (n : ℕ) → callReply (after b calls) (Cancel n) .answer ≡ Accepted → callReply (after b calls) (Cancel n) .number ≡ n

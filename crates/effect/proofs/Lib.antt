@@ -1,3 +1,2 @@
-pub mod Raising
-pub mod Posting
-pub mod Lowering
+pub mod Taking
+pub mod Changing

@@ -1,134 +1,59 @@
--- The parts of what a title does. Assumes nothing.
-use Prim.Native.Nat.{ℕ, pred, _+_, _-_}
-use mathlib.Core.Bool.{true}
+-- What a title does to the entries, over an operation: put in, it changes them by +, and taken back by −. Assumes nothing.
+use Prim.Native.Nat.{ℕ}
 use mathlib.Core.List.{List}
-use lib.ListN.{getD, set}
+use Rattle.laws.specs.Table.{indexed}
 use Rattle.model.specs.declared.Unit.{Unit}
 use Rattle.model.specs.declared.Aquifer.{Aquifer}
 use Rattle.model.specs.declared.Title.{Title}
 use Rattle.model.specs.declared.Place.{Place}
-use Rattle.model.specs.Fresh.{emptyUnit, emptyAquifer}
+use Rattle.model.specs.declared.Balance.{Balance}
+use Rattle.model.specs.Entries.{withEntries, withExtraction}
+use Rattle.model.specs.View.{View}
+use Rattle.titles.specs.Adds.{adds}
+use Rattle.titles.specs.declared.Slot.the-variants.{Extraction, Exports, Imports, Returns, WellExtraction}
 
--- A unit with a withdrawal and its return, with an export, with an import; an aquifer with an extraction.
-abbrev pub withdrawn : Unit → ℕ → ℕ → Unit
-withdrawn u volume back =
+-- A unit with its entries changed by these amounts, and an aquifer with its extraction changed.
+abbrev pub changedBy : (ℕ → ℕ → ℕ) → Unit → ℕ → ℕ → ℕ → ℕ → Unit
+changedBy op u extraction exports imports returns =
+    withEntries u (op (u .extraction) extraction) (op (u .exports) exports) (op (u .imports) imports) (op (u .returns) returns)
+
+abbrev pub drawnBy : (ℕ → ℕ → ℕ) → Aquifer → ℕ → Aquifer
+drawnBy op a amount = withExtraction a (op (a .extraction) amount)
+
+-- The unit, and the aquifer, at an index, changed by what a title with its return adds there.
+abbrev pub changedUnit : (ℕ → ℕ → ℕ) → Title → ℕ → ℕ → Unit → Unit
+changedUnit op t back k u =
+    changedBy op u (adds t back Extraction k) (adds t back Exports k) (adds t back Imports k) (adds t back Returns k)
+
+abbrev pub changedAquifer : (ℕ → ℕ → ℕ) → Title → ℕ → ℕ → Aquifer → Aquifer
+changedAquifer op t back k a = drawnBy op a (adds t back WellExtraction k)
+
+-- Every unit of a list, and every aquifer, changed so.
+abbrev pub changedUnits : (ℕ → ℕ → ℕ) → Title → ℕ → List Unit → List Unit
+changedUnits op t back us = indexed (changedUnit op t back) us
+
+abbrev pub changedWells : (ℕ → ℕ → ℕ) → Title → ℕ → List Aquifer → List Aquifer
+changedWells op t back ws = indexed (changedAquifer op t back) ws
+
+-- A view, and a balance, changed so, with so many numbers given and these places of titles.
+abbrev pub changedView : (ℕ → ℕ → ℕ) → Title → ℕ → View → ℕ → (ℕ → Place) → View
+changedView op t back v given place =
     record {
-      downstream = u .downstream;
-      extraction = u .extraction + volume;
-      exports = u .exports;
-      imports = u .imports;
-      returns = u .returns + back;
-      evaporation = u .evaporation;
-      storage = u .storage;
-      commitment = u .commitment;
-      runoff = u .runoff;
+      units = v .units;
+      unit = λ k. changedUnit op t back k (v .unit k);
+      aquifers = v .aquifers;
+      aquifer = λ k. changedAquifer op t back k (v .aquifer k);
+      given = given;
+      place = place;
     }
 
-abbrev pub exported : Unit → ℕ → Unit
-exported u volume =
+abbrev pub changedBalance : (ℕ → ℕ → ℕ) → Title → ℕ → Balance → ℕ → List Place → Balance
+changedBalance op t back b given titles =
     record {
-      downstream = u .downstream;
-      extraction = u .extraction;
-      exports = u .exports + volume;
-      imports = u .imports;
-      returns = u .returns;
-      evaporation = u .evaporation;
-      storage = u .storage;
-      commitment = u .commitment;
-      runoff = u .runoff;
+      units = changedUnits op t back (b .units);
+      «unit_count» = b .«unit_count»;
+      aquifers = changedWells op t back (b .aquifers);
+      «aquifer_count» = b .«aquifer_count»;
+      titles = titles;
+      given = given;
     }
-
-abbrev pub imported : Unit → ℕ → Unit
-imported u volume =
-    record {
-      downstream = u .downstream;
-      extraction = u .extraction;
-      exports = u .exports;
-      imports = u .imports + volume;
-      returns = u .returns;
-      evaporation = u .evaporation;
-      storage = u .storage;
-      commitment = u .commitment;
-      runoff = u .runoff;
-    }
-
-abbrev pub pumped : Aquifer → ℕ → Aquifer
-pumped a volume =
-    record {
-      storage = a .storage;
-      natural = a .natural;
-      pumped = a .pumped;
-      committed = a .committed;
-      extraction = a .extraction + volume;
-    }
-
--- The same taken back.
-abbrev pub unwithdrawn : Unit → ℕ → ℕ → Unit
-unwithdrawn u volume back =
-    record {
-      downstream = u .downstream;
-      extraction = u .extraction - volume;
-      exports = u .exports;
-      imports = u .imports;
-      returns = u .returns - back;
-      evaporation = u .evaporation;
-      storage = u .storage;
-      commitment = u .commitment;
-      runoff = u .runoff;
-    }
-
-abbrev pub unexported : Unit → ℕ → Unit
-unexported u volume =
-    record {
-      downstream = u .downstream;
-      extraction = u .extraction;
-      exports = u .exports - volume;
-      imports = u .imports;
-      returns = u .returns;
-      evaporation = u .evaporation;
-      storage = u .storage;
-      commitment = u .commitment;
-      runoff = u .runoff;
-    }
-
-abbrev pub unimported : Unit → ℕ → Unit
-unimported u volume =
-    record {
-      downstream = u .downstream;
-      extraction = u .extraction;
-      exports = u .exports;
-      imports = u .imports - volume;
-      returns = u .returns;
-      evaporation = u .evaporation;
-      storage = u .storage;
-      commitment = u .commitment;
-      runoff = u .runoff;
-    }
-
-abbrev pub unpumped : Aquifer → ℕ → Aquifer
-unpumped a volume =
-    record {
-      storage = a .storage;
-      natural = a .natural;
-      pumped = a .pumped;
-      committed = a .committed;
-      extraction = a .extraction - volume;
-    }
-
--- The unit, and the aquifer, of a number.
-abbrev pub unitAt : ℕ → List Unit → Unit
-unitAt u us = getD us (pred u) emptyUnit
-
-abbrev pub aquiferAt : ℕ → List Aquifer → Aquifer
-aquiferAt a ws = getD ws (pred a) emptyAquifer
-
--- The array of units, or of aquifers, changed at one number.
-abbrev pub changeUnit : ℕ → (Unit → Unit) → List Unit → List Unit
-changeUnit u f us = set us (pred u) (f (unitAt u us))
-
-abbrev pub changeWell : ℕ → (Aquifer → Aquifer) → List Aquifer → List Aquifer
-changeWell a f ws = set ws (pred a) (f (aquiferAt a ws))
-
--- The place of a title in force.
-abbrev pub inForce : Title → Place
-inForce t = record { title = t; «in_force» = true }

@@ -1,76 +1,49 @@
 // What a title does to a balance: the entries that it raises, its place and its number.
 ghost use mathlib.Core.Path.{_≡_};
 ghost use Prim.Native.Nat.{_≤_, _<_, _+_};
-ghost use Rattle.effect.specs.Granted as grants;
-ghost use Rattle.effect.specs.Granted.{Grantable, UnitsFit, WellsFit};
 ghost use lib.ListN.{getD, set};
 ghost use Rattle.model.specs.Fresh.{emptyUnit, emptyAquifer};
-ghost use Rattle.model.specs.Limits.{unitLimit, aquiferLimit, termLimit};
+ghost use Rattle.model.specs.Limits.{unitLimit, aquiferLimit};
 ghost use Rattle.effect.specs.Effect as effects;
+ghost use Rattle.effect.specs.Room.{Leaves};
+ghost use Rattle.effect.specs.Granted as grants;
+ghost use Rattle.effect.specs.Granted.{lacking};
 use model::Aquifer;
 use model::Balance;
 use model::Place;
 use model::Title;
 use model::Unit;
 
-// The place of a title in force.
-fn in_force(title: Title) -> Place
-    ensures { λ r. ⌜ r ≡ effects.inForce title ⌝ }
-{
-    Place {
-        title,
-        in_force: true,
-    }
-}
-
-// The units with a withdrawal and its return at the unit of an index.
-fn withdrawn_at(
+// The units with these amounts more in the entries of the unit at an index.
+fn raised_at(
     mut units: [Unit; Balance::UNITS],
     k: usize,
-    volume: u32,
-    back: u32,
+    extraction: u32,
+    exports: u32,
+    imports: u32,
+    returns: u32,
 ) -> [Unit; Balance::UNITS]
     requires { ⌜ k < unitLimit ⌝ }
-    requires { ⌜ (getD units k emptyUnit .extraction + volume ≤ termLimit) × (getD units k emptyUnit .returns + back ≤ termLimit) ⌝ }
-    ensures { λ r. ⌜ r ≡ set units k (effects.withdrawn (getD units k emptyUnit) volume back) ⌝ }
+    requires { ⌜ Leaves lacking (getD units k emptyUnit) extraction exports imports returns ⌝ }
+    ensures { λ r. ⌜ r ≡ set units k (effects.changedBy _+_ (getD units k emptyUnit) extraction exports imports returns) ⌝ }
 {
     let mut u = units[k];
-    u.extraction = u.extraction + volume;
-    u.returns = u.returns + back;
+    u.extraction = u.extraction + extraction;
+    u.exports = u.exports + exports;
+    u.imports = u.imports + imports;
+    u.returns = u.returns + returns;
     units[k] = u;
     units
 }
 
-// The units with an export at the unit of an index.
-fn exported_at(mut units: [Unit; Balance::UNITS], k: usize, volume: u32) -> [Unit; Balance::UNITS]
-    requires { ⌜ (k < unitLimit) × (getD units k emptyUnit .exports + volume ≤ termLimit) ⌝ }
-    ensures { λ r. ⌜ r ≡ set units k (effects.exported (getD units k emptyUnit) volume) ⌝ }
-{
-    let mut u = units[k];
-    u.exports = u.exports + volume;
-    units[k] = u;
-    units
-}
-
-// The units with an import at the unit of an index.
-fn imported_at(mut units: [Unit; Balance::UNITS], k: usize, volume: u32) -> [Unit; Balance::UNITS]
-    requires { ⌜ (k < unitLimit) × (getD units k emptyUnit .imports + volume ≤ termLimit) ⌝ }
-    ensures { λ r. ⌜ r ≡ set units k (effects.imported (getD units k emptyUnit) volume) ⌝ }
-{
-    let mut u = units[k];
-    u.imports = u.imports + volume;
-    units[k] = u;
-    units
-}
-
-// The aquifers with an extraction at the aquifer of an index.
-fn pumped_at(
+// The aquifers with so much more extraction from the aquifer at an index.
+fn raised_well(
     mut aquifers: [Aquifer; Balance::AQUIFERS],
     k: usize,
     volume: u32,
 ) -> [Aquifer; Balance::AQUIFERS]
-    requires { ⌜ (k < aquiferLimit) × (getD aquifers k emptyAquifer .extraction + volume ≤ termLimit) ⌝ }
-    ensures { λ r. ⌜ r ≡ set aquifers k (effects.pumped (getD aquifers k emptyAquifer) volume) ⌝ }
+    requires { ⌜ (k < aquiferLimit) × (volume ≤ lacking (getD aquifers k emptyAquifer .extraction)) ⌝ }
+    ensures { λ r. ⌜ r ≡ set aquifers k (effects.drawnBy _+_ (getD aquifers k emptyAquifer) volume) ⌝ }
 {
     let mut a = aquifers[k];
     a.extraction = a.extraction + volume;
@@ -79,19 +52,21 @@ fn pumped_at(
 }
 
 // The units with a title in.
-pub fn posted_units(units: [Unit; Balance::UNITS], t: Title) -> [Unit; Balance::UNITS]
-    requires { ⌜ UnitsFit t units ⌝ }
-    ensures { λ r. ⌜ r ≡ grants.postedUnits t units ⌝ }
+pub fn raised_units(units: [Unit; Balance::UNITS], t: Title) -> [Unit; Balance::UNITS]
+    requires { ⌜ grants.UnitsFit t units ⌝ }
+    ensures { λ r. ⌜ r ≡ grants.raisedUnits t units ⌝ }
 {
     match t {
         Title::UnitWithdrawal {
             unit,
             usage,
             volume,
-        } => withdrawn_at(
+        } => raised_at(
             units,
             (unit as usize) - 1,
             volume,
+            0,
+            0,
             titles::returned(usage, volume),
         ),
         Title::AquiferWithdrawal {
@@ -99,24 +74,24 @@ pub fn posted_units(units: [Unit; Balance::UNITS], t: Title) -> [Unit; Balance::
             volume: _,
         } => units,
         Title::UnitTransfer { from, to, volume } => {
-            let given = exported_at(units, (from as usize) - 1, volume);
-            imported_at(given, (to as usize) - 1, volume)
+            let given = raised_at(units, (from as usize) - 1, 0, volume, 0, 0);
+            raised_at(given, (to as usize) - 1, 0, 0, volume, 0)
         }
         Title::AquiferTransfer {
             aquifer: _,
             unit,
             volume,
-        } => imported_at(units, (unit as usize) - 1, volume),
+        } => raised_at(units, (unit as usize) - 1, 0, 0, volume, 0),
     }
 }
 
 // The aquifers with a title in.
-pub fn posted_wells(
+pub fn raised_wells(
     aquifers: [Aquifer; Balance::AQUIFERS],
     t: Title,
 ) -> [Aquifer; Balance::AQUIFERS]
-    requires { ⌜ WellsFit t aquifers ⌝ }
-    ensures { λ r. ⌜ r ≡ grants.postedWells t aquifers ⌝ }
+    requires { ⌜ grants.WellsFit t aquifers ⌝ }
+    ensures { λ r. ⌜ r ≡ grants.raisedWells t aquifers ⌝ }
 {
     match t {
         Title::UnitWithdrawal {
@@ -124,7 +99,7 @@ pub fn posted_wells(
             usage: _,
             volume: _,
         } => aquifers,
-        Title::AquiferWithdrawal { aquifer, volume } => pumped_at(
+        Title::AquiferWithdrawal { aquifer, volume } => raised_well(
             aquifers,
             (aquifer as usize) - 1,
             volume,
@@ -138,25 +113,28 @@ pub fn posted_wells(
             aquifer,
             unit: _,
             volume,
-        } => pumped_at(aquifers, (aquifer as usize) - 1, volume),
+        } => raised_well(aquifers, (aquifer as usize) - 1, volume),
     }
 }
 
 // The balance with a title in: its entries raised, the title in the next place and in force, and one number more given.
 pub fn post(b: Balance, t: Title) -> Balance
-    requires { ⌜ Grantable b t ⌝ }
+    requires { ⌜ grants.Grantable b t ⌝ }
     ensures { λ r. ⌜ r ≡ grants.posted b t ⌝ }
 {
     let units = b.units;
     let aquifers = b.aquifers;
     let mut titles = b.titles;
     let given = b.given;
-    let place = in_force(t);
+    let place = Place {
+        title: t,
+        in_force: true,
+    };
     titles[given] = place;
     Balance {
-        units: posted_units(units, t),
+        units: raised_units(units, t),
         unit_count: b.unit_count,
-        aquifers: posted_wells(aquifers, t),
+        aquifers: raised_wells(aquifers, t),
         aquifer_count: b.aquifer_count,
         titles,
         given: given + 1,

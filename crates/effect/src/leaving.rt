@@ -1,66 +1,50 @@
 // A title taken back: what it added to each entry is lowered by the same, and its place stays out of force.
 ghost use mathlib.Core.Path.{_≡_};
-ghost use Prim.Native.Nat.{_≤_, _<_};
-ghost use Rattle.model.specs.View.{viewOf};
+ghost use Prim.Native.Nat.{_≤_, _<_, _-_};
 ghost use lib.ListN.{getD, set};
 ghost use Rattle.model.specs.Fresh.{emptyUnit, emptyAquifer};
 ghost use Rattle.model.specs.Limits.{unitLimit, aquiferLimit, titleLimit};
+ghost use Rattle.model.specs.View.{viewOf};
 ghost use Rattle.effect.specs.Effect as effects;
+ghost use Rattle.effect.specs.Room.{Leaves};
 ghost use Rattle.effect.specs.Cancelled as cancels;
+ghost use Rattle.effect.specs.Cancelled.{held};
 use model::Aquifer;
 use model::Balance;
 use model::Place;
 use model::Title;
 use model::Unit;
 
-// The units without a withdrawal and its return at the unit of an index.
-fn unwithdrawn_at(
+// The units with these amounts less in the entries of the unit at an index.
+fn lowered_at(
     mut units: [Unit; Balance::UNITS],
     k: usize,
-    volume: u32,
-    back: u32,
+    extraction: u32,
+    exports: u32,
+    imports: u32,
+    returns: u32,
 ) -> [Unit; Balance::UNITS]
     requires { ⌜ k < unitLimit ⌝ }
-    requires { ⌜ (volume ≤ getD units k emptyUnit .extraction) × (back ≤ getD units k emptyUnit .returns) ⌝ }
-    ensures { λ r. ⌜ r ≡ set units k (effects.unwithdrawn (getD units k emptyUnit) volume back) ⌝ }
+    requires { ⌜ Leaves held (getD units k emptyUnit) extraction exports imports returns ⌝ }
+    ensures { λ r. ⌜ r ≡ set units k (effects.changedBy _-_ (getD units k emptyUnit) extraction exports imports returns) ⌝ }
 {
     let mut u = units[k];
-    u.extraction = u.extraction - volume;
-    u.returns = u.returns - back;
+    u.extraction = u.extraction - extraction;
+    u.exports = u.exports - exports;
+    u.imports = u.imports - imports;
+    u.returns = u.returns - returns;
     units[k] = u;
     units
 }
 
-// The units without an export at the unit of an index.
-fn unexported_at(mut units: [Unit; Balance::UNITS], k: usize, volume: u32) -> [Unit; Balance::UNITS]
-    requires { ⌜ (k < unitLimit) × (volume ≤ getD units k emptyUnit .exports) ⌝ }
-    ensures { λ r. ⌜ r ≡ set units k (effects.unexported (getD units k emptyUnit) volume) ⌝ }
-{
-    let mut u = units[k];
-    u.exports = u.exports - volume;
-    units[k] = u;
-    units
-}
-
-// The units without an import at the unit of an index.
-fn unimported_at(mut units: [Unit; Balance::UNITS], k: usize, volume: u32) -> [Unit; Balance::UNITS]
-    requires { ⌜ (k < unitLimit) × (volume ≤ getD units k emptyUnit .imports) ⌝ }
-    ensures { λ r. ⌜ r ≡ set units k (effects.unimported (getD units k emptyUnit) volume) ⌝ }
-{
-    let mut u = units[k];
-    u.imports = u.imports - volume;
-    units[k] = u;
-    units
-}
-
-// The aquifers without an extraction at the aquifer of an index.
-fn unpumped_at(
+// The aquifers with so much less extraction from the aquifer at an index.
+fn lowered_well(
     mut aquifers: [Aquifer; Balance::AQUIFERS],
     k: usize,
     volume: u32,
 ) -> [Aquifer; Balance::AQUIFERS]
-    requires { ⌜ (k < aquiferLimit) × (volume ≤ getD aquifers k emptyAquifer .extraction) ⌝ }
-    ensures { λ r. ⌜ r ≡ set aquifers k (effects.unpumped (getD aquifers k emptyAquifer) volume) ⌝ }
+    requires { ⌜ (k < aquiferLimit) × (volume ≤ held (getD aquifers k emptyAquifer .extraction)) ⌝ }
+    ensures { λ r. ⌜ r ≡ set aquifers k (effects.drawnBy _-_ (getD aquifers k emptyAquifer) volume) ⌝ }
 {
     let mut a = aquifers[k];
     a.extraction = a.extraction - volume;
@@ -78,10 +62,12 @@ pub fn lowered_units(units: [Unit; Balance::UNITS], t: Title) -> [Unit; Balance:
             unit,
             usage,
             volume,
-        } => unwithdrawn_at(
+        } => lowered_at(
             units,
             (unit as usize) - 1,
             volume,
+            0,
+            0,
             titles::returned(usage, volume),
         ),
         Title::AquiferWithdrawal {
@@ -89,14 +75,14 @@ pub fn lowered_units(units: [Unit; Balance::UNITS], t: Title) -> [Unit; Balance:
             volume: _,
         } => units,
         Title::UnitTransfer { from, to, volume } => {
-            let kept = unexported_at(units, (from as usize) - 1, volume);
-            unimported_at(kept, (to as usize) - 1, volume)
+            let kept = lowered_at(units, (from as usize) - 1, 0, volume, 0, 0);
+            lowered_at(kept, (to as usize) - 1, 0, 0, volume, 0)
         }
         Title::AquiferTransfer {
             aquifer: _,
             unit,
             volume,
-        } => unimported_at(units, (unit as usize) - 1, volume),
+        } => lowered_at(units, (unit as usize) - 1, 0, 0, volume, 0),
     }
 }
 
@@ -111,7 +97,7 @@ fn lowered_wells(aquifers: [Aquifer; Balance::AQUIFERS], t: Title) -> [Aquifer; 
             usage: _,
             volume: _,
         } => aquifers,
-        Title::AquiferWithdrawal { aquifer, volume } => unpumped_at(
+        Title::AquiferWithdrawal { aquifer, volume } => lowered_well(
             aquifers,
             (aquifer as usize) - 1,
             volume,
@@ -125,7 +111,7 @@ fn lowered_wells(aquifers: [Aquifer; Balance::AQUIFERS], t: Title) -> [Aquifer; 
             aquifer,
             unit: _,
             volume,
-        } => unpumped_at(aquifers, (aquifer as usize) - 1, volume),
+        } => lowered_well(aquifers, (aquifer as usize) - 1, volume),
     }
 }
 

@@ -3,7 +3,7 @@ mod entering;
 mod leaving;
 
 pub use entering::post;
-pub use entering::posted_units;
-pub use entering::posted_wells;
+pub use entering::raised_units;
+pub use entering::raised_wells;
 pub use leaving::lowered_units;
 pub use leaving::take_back;

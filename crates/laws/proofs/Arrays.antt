@@ -1,7 +1,7 @@
 -- Arrays that a loop fills, and arrays in which a loop adds up what arrives at each place. Assumes nothing.
 use Prim.Native.Nat.{ℕ, zero, suc, _+_, _≤_, _<_}
 use mathlib.Core.Path.{_≡_, refl, sym, ap, _∙_}
-use mathlib.Core.List.{List}
+use mathlib.Core.List.{List, [], _∷_}
 use mathlib.Core.Bool.{cond}
 use lib.Dec.{ltb}
 use lib.ListN.{length, getD, set, replicate, length-set, length-replicate, getD-replicate, List·getD-eq-default}
@@ -10,7 +10,7 @@ use native.Mathlib.Omega.{arith}
 use borrow.Author.Tests.{eq-eqb, ne-eqb, lt-ltb, le-ltb}
 use Rattle.laws.specs.Sum.{naturals, sumOf}
 use Rattle.laws.specs.Gather.{arriving}
-use Rattle.laws.specs.Table.{tabulate, table}
+use Rattle.laws.specs.Table.{tabulate, table, indexed}
 use Rattle.laws.proofs.Cases.{by-eq, by-lt}
 
 -- Past its end a list reads as its default.
@@ -152,3 +152,38 @@ pub table-more : {A : Type 0} (n : ℕ) (d : A) (count : ℕ) (f : ℕ → A) (x
     → set (table n d count f) count x ≡ table n d (suc count) f
 table-more n d count f x c e =
     filled-table n d f (suc count) (set (table n d count f) count x) (filled-put n d f count (table n d count f) x c e (table-filled n d count f (omega arith)))
+
+-- A list changed as its indices say keeps its length, and holds at each index what that says. Past its end it reads as its default.
+module _ {A : Type 0} where
+  pub length-indexed : (f : ℕ → A → A) (l : List A) → length (indexed f l) ≡ length l
+  unfolding indexed
+  length-indexed f [] = refl
+  length-indexed f (x ∷ xs) = ap suc (length-indexed (λ k. f (suc k)) xs)
+
+  pub getD-indexed : (f : ℕ → A → A) (l : List A) (d : A) (k : ℕ) → (length l ≤ k → f k d ≡ d) → getD (indexed f l) k d ≡ f k (getD l k d)
+  unfolding indexed
+  getD-indexed f [] d k e = sym (e (omega arith))
+  getD-indexed f (x ∷ xs) d zero e = refl
+  getD-indexed f (x ∷ xs) d (suc k) e = getD-indexed (λ j. f (suc j)) xs d k (λ h. e (omega arith))
+
+  -- Changed twice, it is changed by both.
+  pub indexed-twice : (f g : ℕ → A → A) (l : List A) → indexed f (indexed g l) ≡ indexed (λ k a. f k (g k a)) l
+  unfolding indexed
+  indexed-twice f g [] = refl
+  indexed-twice f g (x ∷ xs) = ap (λ (l : List A). f 0 (g 0 x) ∷ l) (indexed-twice (λ k. f (suc k)) (λ k. g (suc k)) xs)
+
+  -- Where every element stays as it was, so does the list.
+  pub indexed-none : (f : ℕ → A → A) (l : List A) → ((k : ℕ) (a : A) → f k a ≡ a) → l ≡ indexed f l
+  unfolding indexed
+  indexed-none f [] e = refl
+  indexed-none f (x ∷ xs) e = λ i. sym (e 0 x) i ∷ indexed-none (λ k. f (suc k)) xs (λ k. e (suc k)) i
+
+  -- One element is set, where the others stay as they were.
+  pub set-indexed : (f : ℕ → A → A) (l : List A) (d : A) (n : ℕ) → ((k : ℕ) → (k ≡ n → ⊥) → (a : A) → f k a ≡ a)
+      → set l n (f n (getD l n d)) ≡ indexed f l
+  unfolding indexed
+  set-indexed f [] d n e = refl
+  set-indexed f (x ∷ xs) d zero e =
+      ap (λ (l : List A). f 0 x ∷ l) (indexed-none (λ k. f (suc k)) xs (λ k. e (suc k) (λ q. omega arith)))
+  set-indexed f (x ∷ xs) d (suc n) e = λ i.
+      sym (e 0 (λ q. omega arith) x) i ∷ set-indexed (λ k. f (suc k)) xs d n (λ k g. e (suc k) (λ q. g (omega arith))) i

@@ -3,6 +3,7 @@ pub mod Signs
 pub mod Parts
 pub mod Gathering
 pub mod Arrays
+pub mod Putting
 pub mod Splitting
 pub mod Chain
 pub mod Every

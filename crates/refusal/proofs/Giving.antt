@@ -58,21 +58,15 @@ water-untitled v given (AquiferWithdrawal a x) = refl
 water-untitled v given (UnitTransfer g r x) = sym (dry-alone (untitled v given) (pred g)) ∙ dry-alone v (pred g)
 water-untitled v given (AquiferTransfer a u x) = refl
 
-pub named-untitled : (v : View) (given : ℕ) (t : Title) → Named v t → Named (untitled v given) t
-named-untitled v given (UnitWithdrawal u r x) n = n
-named-untitled v given (AquiferWithdrawal a x) n = n
-named-untitled v given (UnitTransfer g r x) n = n
-named-untitled v given (AquiferTransfer a u x) n = n
-
 -- Where a unit gives, it is there, and there is no water where its basin is dry.
 pub record UnitGives (v : View) (t : Title) : Type 0 where
   pub within : givingUnit t ≤ v .units
   pub water : noWater v t ≡ dry v (pred (givingUnit t))
 
 pub unit-gives : (v : View) (t : Title) → Named v t → 0 < givingUnit t → UnitGives v t
-unit-gives v (UnitWithdrawal u r x) n h = record { within = n .1; water = refl }
+unit-gives v (UnitWithdrawal u r x) n h = record { within = n .extraction .1; water = refl }
 unit-gives v (AquiferWithdrawal a x) n h = absurd (omega arith)
-unit-gives v (UnitTransfer g r x) n h = record { within = n .1; water = refl }
+unit-gives v (UnitTransfer g r x) n h = record { within = n .exports .1; water = refl }
 unit-gives v (AquiferTransfer a u x) n h = absurd (omega arith)
 
 -- Where an aquifer gives, it is there, and there is no water where it is drained.
@@ -82,7 +76,7 @@ pub record AquiferGives (v : View) (t : Title) : Type 0 where
   pub water : noWater v t ≡ drained v (pred (givingAquifer t))
 
 pub aquifer-gives : (v : View) (t : Title) → Named v t → (0 < givingUnit t → ⊥) → AquiferGives v t
-aquifer-gives v (UnitWithdrawal u r x) n h = absurd (h (n .0))
-aquifer-gives v (AquiferWithdrawal a x) n h = record { positive = n .0; within = n .1; water = refl }
-aquifer-gives v (UnitTransfer g r x) n h = absurd (h (n .0))
-aquifer-gives v (AquiferTransfer a u x) n h = record { positive = n .0; within = n .1; water = refl }
+aquifer-gives v (UnitWithdrawal u r x) n h = absurd (h (n .extraction .0))
+aquifer-gives v (AquiferWithdrawal a x) n h = record { positive = n .wells .0; within = n .wells .1; water = refl }
+aquifer-gives v (UnitTransfer g r x) n h = absurd (h (n .exports .0))
+aquifer-gives v (AquiferTransfer a u x) n h = record { positive = n .wells .0; within = n .wells .1; water = refl }

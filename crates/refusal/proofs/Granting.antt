@@ -1,26 +1,26 @@
 -- What the early refusals leave: a title that can be put in, with entries that stay within the limit. Assumes nothing.
 use Prim.Native.Nat.{ℕ, suc, pred, _+_, _≤_, _<_}
-use mathlib.Core.Path.{_≡_, refl, sym, ap, subst, _∙_}
-use mathlib.Core.Bool.{Bool, true, false, cond, not, _&&_, true≢false}
+use mathlib.Core.Path.{_≡_, refl, ap, subst}
+use mathlib.Core.Bool.{Bool, true, false, cond, not, _&&_}
 use lib.Dec.{eqb, leb}
 use native.Mathlib.Omega.{arith}
 use borrow.Author.Tests.{ltb-false, leb-false, eq-eqb, ne-eqb}
-use Rattle.laws.specs.Sum.{naturals, only}
 use Rattle.laws.proofs.Cases.{by-eq}
 use Rattle.laws.proofs.Every.{both, neither}
-use Rattle.model.specs.declared.Unit.{Unit}
-use Rattle.model.specs.declared.Aquifer.{Aquifer}
 use Rattle.model.specs.declared.Title.{Title}
 use Rattle.model.specs.declared.Title.the-variants.{UnitWithdrawal, AquiferWithdrawal, UnitTransfer, AquiferTransfer}
 use Rattle.model.specs.View.{View}
 use Rattle.model.specs.Limits.{termLimit}
 use Rattle.model.specs.Answers.{Refusal, none, number, refuse}
-use Rattle.titles.specs.Adds.{returned}
+use Rattle.titles.specs.Posting.{Posting, nothing, post, posts, postings}
+use Rattle.titles.specs.Adds.{returned, returnOf}
 use Rattle.river.specs.Flow.{Ready}
 use Rattle.figures.specs.Figures.{WellsReady}
 use Rattle.basin.specs.Sound.{exists, isVolume}
-use Rattle.basin.proofs.Soundness.{UnitSound, AquiferSound, Volume, TitleSound, Soundness, number-exists, is-volume, ready-of, wells-ready-of}
-use Rattle.effect.specs.Granted.{granted, raisedUnit, raisedAquifer, Named, Fits}
+use Rattle.basin.proofs.Soundness.{UnitSound, AquiferSound, Exists, Volume, TitleSound, Soundness, number-exists, is-volume, ready-of, wells-ready-of}
+use Rattle.effect.specs.Room.{Takes, UnitsTake, WellsTake}
+use Rattle.effect.specs.Granted.{granted, Named, lacking}
+use Rattle.effect.proofs.Taking.{names-of}
 use Rattle.refusal.specs.Grant.{overfull, past, downstreamTransfer, noWater, grantRefusal}
 use Rattle.refusal.specs.Steps.{volumeNumber, earlyNumber}
 
@@ -72,8 +72,8 @@ passed false a n e = (refl, e)
 -- What holds of a title that no early refusal meets.
 pub record Granting (v : View) (t : Title) : Type 0 where
   pub room : v .given < 256
-  pub named : Named v t
-  pub fits : Fits v t
+  pub units : UnitsTake lacking (v .units) (v .unit) (postings t (returnOf t))
+  pub wells : WellsTake lacking (v .aquifers) (v .aquifer) (postings t (returnOf t))
   pub titled : TitleSound (v .units) (v .aquifers) t
 
 record Room (given x : ℕ) (over : Bool) : Type 0 where
@@ -88,6 +88,10 @@ room-of given x over e =
     let s = passed over 0 15 (q .1) in
     record { volume = is-volume x (p .0); room = leb-false 256 given (q .0); fits = s .0 }
 
+-- An entry that would not pass the limit takes the amount.
+fits : (n count e a : ℕ) → Exists count n → past (e + a) ≡ false → (0 < n) × (n ≤ count) × (a ≤ lacking e)
+fits n count e a x q = (x .positive, x .within, omega (arith, ltb-false termLimit (e + a) q))
+
 pub granting-of : (v : View) (t : Title) → earlyNumber v t ≡ 0 → Granting v t
 granting-of v (UnitWithdrawal u r x) e =
     let p = held (exists (v .units) u) _ 11 e in
@@ -97,15 +101,20 @@ granting-of v (UnitWithdrawal u r x) e =
     let o = neither (past (v .unit (pred u) .extraction + x)) _ (f .fits) in
     record {
       room = f .room;
-      named = (there .positive, there .within);
-      fits = (ltb-false _ _ (o .0), ltb-false _ _ (o .1));
+      units = record { extraction = fits u _ _ x there (o .0); exports = tt; imports = tt; returns = fits u _ _ (returned r x) there (o .1) };
+      wells = tt;
       titled = (there, number-exists 7 r (q .0), f .volume);
     }
 granting-of v (AquiferWithdrawal a x) e =
     let p = held (exists (v .aquifers) a) _ 11 e in
     let f = room-of (v .given) x (overfull v (AquiferWithdrawal a x)) (p .1) in
     let there = number-exists (v .aquifers) a (p .0) in
-    record { room = f .room; named = (there .positive, there .within); fits = ltb-false _ _ (f .fits); titled = (there, f .volume) }
+    record {
+      room = f .room;
+      units = record { extraction = tt; exports = tt; imports = tt; returns = tt };
+      wells = fits a _ _ x there (f .fits);
+      titled = (there, f .volume);
+    }
 granting-of v (UnitTransfer g r x) e =
     let p = held (exists (v .units) g && exists (v .units) r) _ 11 e in
     let w = passed (downstreamTransfer v g r) _ 17 (p .1) in
@@ -114,12 +123,10 @@ granting-of v (UnitTransfer g r x) e =
     let giver = number-exists (v .units) g (b .0) in
     let receiver = number-exists (v .units) r (b .1) in
     let o = neither (past (v .unit (pred g) .exports + x)) _ (f .fits) in
-    let apart = neither (eqb g r) _ (w .0) in
     record {
       room = f .room;
-      named =
-          (giver .positive, giver .within, receiver .positive, receiver .within, λ q. true≢false (sym (eq-eqb g r q) ∙ apart .0));
-      fits = (ltb-false _ _ (o .0), ltb-false _ _ (o .1));
+      units = record { extraction = tt; exports = fits g _ _ x giver (o .0); imports = fits r _ _ x receiver (o .1); returns = tt };
+      wells = tt;
       titled = (giver, receiver, f .volume);
     }
 granting-of v (AquiferTransfer a u x) e =
@@ -131,30 +138,35 @@ granting-of v (AquiferTransfer a u x) e =
     let o = neither (past (v .aquifer (pred a) .extraction + x)) _ (f .fits) in
     record {
       room = f .room;
-      named = (source .positive, source .within, unit .positive, unit .within);
-      fits = (ltb-false _ _ (o .0), ltb-false _ _ (o .1));
+      units = record { extraction = tt; exports = tt; imports = fits u _ _ x unit (o .1); returns = tt };
+      wells = fits a _ _ x source (o .0);
       titled = (source, unit, f .volume);
     }
 
--- An entry that is raised at one number stays within the limit.
-within : (e : ℕ → ℕ) (u x k : ℕ) → 0 < u → e (pred u) + x ≤ termLimit → e k ≤ termLimit → e k + only naturals (eqb u (suc k)) x ≤ termLimit
-within e u x k h f s =
-    by-eq u (suc k)
-    (λ q. rw (eq-eqb u (suc k) q) (subst (λ (j : ℕ). e j + x ≤ termLimit) (ap pred q) f))
-    (λ q. rw (ne-eqb u (suc k) q) (omega arith))
+-- What the title names is there.
+pub granting-named : (v : View) (t : Title) → Granting v t → Named v t
+granting-named v t g = names-of lacking (v .unit) (postings t (returnOf t)) (v .aquifer) (v .units) (v .aquifers) (g .units) (g .wells)
 
-still : (a : ℕ) → a ≤ termLimit → a + 0 ≤ termLimit
-still a h = omega arith
+-- An entry that takes what is posted to it stays within the limit.
+stays : (entry : ℕ → ℕ) (count k : ℕ) (p : Posting) → Takes lacking count entry p → entry k ≤ termLimit → entry k + posts p k ≤ termLimit
+stays entry count k nothing h s = omega arith
+stays entry count k (post n a) h s =
+    by-eq n (suc k)
+    (λ q.
+    let m = subst (λ (j : ℕ). a ≤ lacking (entry j)) (ap pred q) (h .2) in
+    rw (eq-eqb n (suc k) q) (omega arith))
+    (λ q. rw (ne-eqb n (suc k) q) (omega arith))
 
-raised-sound : (t : Title) (n k : ℕ) (u : Unit) → UnitSound n k u
-    → raisedUnit t k u .extraction ≤ termLimit → raisedUnit t k u .exports ≤ termLimit → raisedUnit t k u .imports ≤ termLimit
-    → raisedUnit t k u .returns ≤ termLimit → UnitSound n k (raisedUnit t k u)
-raised-sound t n k u s e₁ e₂ e₃ e₄ =
+-- With the title in, every unit and every aquifer stays sound.
+pub unit-stays : (v : View) (t : Title) → Granting v t → (k : ℕ) → UnitSound (v .units) k (v .unit k)
+    → UnitSound (v .units) k (granted v t .unit k)
+unit-stays v t g k s =
+    let p = postings t (returnOf t) in
     record {
-      extraction = e₁;
-      exports = e₂;
-      imports = e₃;
-      returns = e₄;
+      extraction = stays (λ j. v .unit j .extraction) (v .units) k (p .extraction) (g .units .extraction) (s .extraction);
+      exports = stays (λ j. v .unit j .exports) (v .units) k (p .exports) (g .units .exports) (s .exports);
+      imports = stays (λ j. v .unit j .imports) (v .units) k (p .imports) (g .units .imports) (s .imports);
+      returns = stays (λ j. v .unit j .returns) (v .units) k (p .returns) (g .units .returns) (s .returns);
       evaporation = s .evaporation;
       rise = s .rise;
       fall = s .fall;
@@ -165,40 +177,17 @@ raised-sound t n k u s e₁ e₂ e₃ e₄ =
       outlet = s .outlet;
     }
 
--- With the title in, every unit and every aquifer stays sound.
-pub unit-stays : (v : View) (t : Title) → Granting v t → (k : ℕ) → UnitSound (v .units) k (v .unit k)
-    → UnitSound (v .units) k (granted v t .unit k)
-unit-stays v (UnitWithdrawal u r x) g k s =
-    raised-sound (UnitWithdrawal u r x) (v .units) k (v .unit k) s
-    (within (λ j. v .unit j .extraction) u x k (g .named .0) (g .fits .0) (s .extraction))
-    (still _ (s .exports)) (still _ (s .imports))
-    (within (λ j. v .unit j .returns) u (returned r x) k (g .named .0) (g .fits .1) (s .returns))
-unit-stays v (AquiferWithdrawal a x) g k s =
-    raised-sound (AquiferWithdrawal a x) (v .units) k (v .unit k) s
-    (still _ (s .extraction)) (still _ (s .exports)) (still _ (s .imports)) (still _ (s .returns))
-unit-stays v (UnitTransfer n r x) g k s =
-    raised-sound (UnitTransfer n r x) (v .units) k (v .unit k) s
-    (still _ (s .extraction))
-    (within (λ j. v .unit j .exports) n x k (g .named .0) (g .fits .0) (s .exports))
-    (within (λ j. v .unit j .imports) r x k (g .named .2) (g .fits .1) (s .imports))
-    (still _ (s .returns))
-unit-stays v (AquiferTransfer a u x) g k s =
-    raised-sound (AquiferTransfer a u x) (v .units) k (v .unit k) s
-    (still _ (s .extraction)) (still _ (s .exports))
-    (within (λ j. v .unit j .imports) u x k (g .named .2) (g .fits .1) (s .imports))
-    (still _ (s .returns))
-
-pumped-sound : (t : Title) (k : ℕ) (a : Aquifer) → AquiferSound a → raisedAquifer t k a .extraction ≤ termLimit → AquiferSound (raisedAquifer t k a)
-pumped-sound t k a s e =
-    record { rise = s .rise; fall = s .fall; natural = s .natural; pumped = s .pumped; committed = s .committed; extraction = e; recharged = s .recharged }
-
 pub aquifer-stays : (v : View) (t : Title) → Granting v t → (k : ℕ) → AquiferSound (v .aquifer k) → AquiferSound (granted v t .aquifer k)
-aquifer-stays v (UnitWithdrawal u r x) g k s = pumped-sound (UnitWithdrawal u r x) k (v .aquifer k) s (still _ (s .extraction))
-aquifer-stays v (AquiferWithdrawal a x) g k s =
-    pumped-sound (AquiferWithdrawal a x) k (v .aquifer k) s (within (λ j. v .aquifer j .extraction) a x k (g .named .0) (g .fits) (s .extraction))
-aquifer-stays v (UnitTransfer n r x) g k s = pumped-sound (UnitTransfer n r x) k (v .aquifer k) s (still _ (s .extraction))
-aquifer-stays v (AquiferTransfer a u x) g k s =
-    pumped-sound (AquiferTransfer a u x) k (v .aquifer k) s (within (λ j. v .aquifer j .extraction) a x k (g .named .0) (g .fits .0) (s .extraction))
+aquifer-stays v t g k s =
+    record {
+      rise = s .rise;
+      fall = s .fall;
+      natural = s .natural;
+      pumped = s .pumped;
+      committed = s .committed;
+      extraction = stays (λ j. v .aquifer j .extraction) (v .aquifers) k (postings t (returnOf t) .wells) (g .wells) (s .extraction);
+      recharged = s .recharged;
+    }
 
 -- The view with the title in can be worked out.
 pub granted-ready : (v : View) (t : Title) → Soundness v → Granting v t → Ready (granted v t)
@@ -206,10 +195,3 @@ granted-ready v t s g = ready-of (granted v t) (s .few-units) (λ k h. unit-stay
 
 pub granted-wells-ready : (v : View) (t : Title) → Soundness v → Granting v t → WellsReady (granted v t)
 granted-wells-ready v t s g = wells-ready-of (granted v t) (s .few-aquifers) (λ k h. aquifer-stays v t g k (s .aquifer k h))
-
--- What the title names is there with the title in.
-pub granted-named : (v : View) (t : Title) → Named v t → Named (granted v t) t
-granted-named v (UnitWithdrawal u r x) n = n
-granted-named v (AquiferWithdrawal a x) n = n
-granted-named v (UnitTransfer g r x) n = n
-granted-named v (AquiferTransfer a u x) n = n

@@ -1,26 +1,28 @@
 -- The view of a balance with a title out of force, and that a sound balance holds what its titles added. Assumes nothing.
-use Prim.Native.Nat.{ℕ, pred, _+_, _-_, _≤_, _<_}
-use mathlib.Core.Path.{_≡_, refl}
+use Prim.Native.Nat.{ℕ, pred, _+_, _≤_, _<_}
+use mathlib.Core.Path.{_≡_}
 use mathlib.Core.Bool.{true, false}
 use native.Mathlib.Omega.{arith}
-use borrow.Author.Tests.{eq-eqb, ne-eqb}
 use Rattle.laws.proofs.Every.{both}
+use Rattle.laws.proofs.Putting.{sum-put}
 use Rattle.model.specs.declared.Title.{Title}
 use Rattle.model.specs.declared.Title.the-variants.{UnitWithdrawal, AquiferWithdrawal, UnitTransfer, AquiferTransfer}
 use Rattle.model.specs.declared.Balance.{Balance}
+use Rattle.model.specs.Entries.{placeOf}
 use Rattle.model.specs.View.{View, viewOf}
-use Rattle.titles.specs.Adds.{adds, returned, titled}
+use Rattle.titles.specs.Posting.{postings}
+use Rattle.titles.specs.Adds.{returnOf, adds, placeAdds, titled}
 use Rattle.titles.specs.declared.Slot.{Slot}
 use Rattle.titles.specs.declared.Slot.the-variants.{Extraction, Exports, Imports, Returns, WellExtraction}
-use Rattle.titles.proofs.Adding.{place-cancelled}
+use Rattle.titles.proofs.Adding.{in-force}
 use Rattle.basin.specs.Sound.{exists}
 use Rattle.basin.proofs.Soundness.{TitleSound, Exists, Soundness, number-exists}
-use Rattle.effect.specs.Cancelled.{titleOf, cancelled, withoutTitle, Held}
-use Rattle.register.specs.Cancel.{inForce}
+use Rattle.effect.specs.Room.{Names, UnitsTake, WellsTake}
 use Rattle.effect.specs.Granted.{Sized}
-use Rattle.effect.proofs.Raising.{here}
-use Rattle.effect.proofs.Lowering.{unit-lowered, well-lowered}
-use Rattle.effect.proofs.Posting.{place-set}
+use Rattle.effect.specs.Cancelled.{titleOf, cancelled, withoutTitle, held, Takable}
+use Rattle.effect.proofs.Taking.{takes-of, units-more, wells-more}
+use Rattle.effect.proofs.Changing.{without-view}
+use Rattle.register.specs.Cancel.{inForce}
 
 -- A number in force was given, and its place is in force.
 pub record InForce (v : View) (n : ℕ) : Type 0 where
@@ -30,82 +32,65 @@ pub record InForce (v : View) (n : ℕ) : Type 0 where
 pub in-force-of : (v : View) (n : ℕ) → inForce v n ≡ true → InForce v n
 in-force-of v n e = let p = both (exists (v .given) n) _ e in record { given = number-exists (v .given) n (p .0); stands = p .1 }
 
+-- What a sound title names is there.
+there : (count n : ℕ) → Exists count n → (0 < n) × (n ≤ count)
+there count n e = (e .positive, e .within)
+
+names-sound : (units aquifers : ℕ) (t : Title) → TitleSound units aquifers t → Names units aquifers (postings t (returnOf t))
+names-sound units aquifers (UnitWithdrawal u r x) s =
+    record { extraction = there units u (s .0); exports = tt; imports = tt; returns = there units u (s .0); wells = tt }
+names-sound units aquifers (AquiferWithdrawal a x) s =
+    record { extraction = tt; exports = tt; imports = tt; returns = tt; wells = there aquifers a (s .0) }
+names-sound units aquifers (UnitTransfer g r x) s =
+    record { extraction = tt; exports = there units g (s .0); imports = there units r (s .1); returns = tt; wells = tt }
+names-sound units aquifers (AquiferTransfer a u x) s =
+    record { extraction = tt; exports = tt; imports = there units u (s .1); returns = tt; wells = there aquifers a (s .0) }
+
 -- The titles in force without the one under a number, and what it added.
 pub one-less : (v : View) (n : ℕ) → InForce v n → (s : Slot) (j : ℕ)
-    → titled (cancelled v n) (v .given) s j + adds (titleOf v n) s j ≡ titled v (v .given) s j
+    → titled (cancelled v n) (v .given) s j + adds (titleOf v n) (returnOf (titleOf v n)) s j ≡ titled v (v .given) s j
 one-less v n f s j =
-    place-cancelled s j (v .given) (pred n) (v .place) (cancelled v n .place) (omega (arith, f .given .positive, f .given .within)) (f .stands)
-    (rw (eq-eqb (pred n) (pred n) refl) refl)
-    (λ k h e. rw (ne-eqb k (pred n) e) refl)
+    omega (
+      arith,
+      sum-put (λ p. placeAdds p s j) (v .place) (v .given) (pred n) (placeOf (titleOf v n) false) (omega (arith, f .given .positive, f .given .within)),
+      in-force s j (v .place (pred n)) (f .stands),
+    )
 
 -- A sound view holds what the title under a number in force added.
-pub covers : (v : View) (n : ℕ) → Soundness v → InForce v n → (j : ℕ) → j < v .units
-    → (adds (titleOf v n) Extraction j ≤ v .unit j .extraction) × (adds (titleOf v n) Exports j ≤ v .unit j .exports)
-    × (adds (titleOf v n) Imports j ≤ v .unit j .imports) × (adds (titleOf v n) Returns j ≤ v .unit j .returns)
-covers v n s f j h =
-    let c = s .covered j h in (
-      omega (arith, one-less v n f Extraction j, c .extraction),
-      omega (arith, one-less v n f Exports j, c .exports),
-      omega (arith, one-less v n f Imports j, c .imports),
-      omega (arith, one-less v n f Returns j, c .returns),
-    )
+module _ (v : View) (n : ℕ) (s : Soundness v) (f : InForce v n) where
+  names : Names (v .units) (v .aquifers) (postings (titleOf v n) (returnOf (titleOf v n)))
+  names =
+      names-sound (v .units) (v .aquifers) (titleOf v n)
+      (s .place (pred n) (omega (arith, f .given .positive, f .given .within)) .in-force (f .stands))
 
-pub covers-well : (v : View) (n : ℕ) → Soundness v → InForce v n → (j : ℕ) → j < v .aquifers
-    → adds (titleOf v n) WellExtraction j ≤ v .aquifer j .extraction
-covers-well v n s f j h = omega (arith, one-less v n f WellExtraction j, s .well-covered j h)
+  holds : (slot : Slot) (j entry : ℕ) → titled v (v .given) slot j ≤ entry → adds (titleOf v n) (returnOf (titleOf v n)) slot j ≤ held entry
+  holds slot j entry h = omega (arith, one-less v n f slot j)
 
-held-of : (v : View) (t : Title)
-    → TitleSound (v .units) (v .aquifers) t
-    → ((j : ℕ) → j < v .units → (adds t Extraction j ≤ v .unit j .extraction) × (adds t Exports j ≤ v .unit j .exports)
-    × (adds t Imports j ≤ v .unit j .imports) × (adds t Returns j ≤ v .unit j .returns))
-    → ((j : ℕ) → j < v .aquifers → adds t WellExtraction j ≤ v .aquifer j .extraction)
-    → Held v t
-held-of v (UnitWithdrawal u r x) s c w =
-    let at = c (pred u) (omega (arith, s .0 .positive, s .0 .within)) in
-    (s .0 .positive, s .0 .within, omega (arith, at .0, here u x (s .0 .positive)), omega (arith, at .3, here u (returned r x) (s .0 .positive)))
-held-of v (AquiferWithdrawal a x) s c w = (
-  s .0 .positive,
-  s .0 .within,
-  omega (arith, w (pred a) (omega (arith, s .0 .positive, s .0 .within)), here a x (s .0 .positive)),
-)
-held-of v (UnitTransfer g r x) s c w =
-    let giver = c (pred g) (omega (arith, s .0 .positive, s .0 .within)) in
-    let receiver = c (pred r) (omega (arith, s .1 .positive, s .1 .within)) in (
-      s .0 .positive,
-      s .0 .within,
-      s .1 .positive,
-      s .1 .within,
-      omega (arith, giver .1, here g x (s .0 .positive)),
-      omega (arith, receiver .2, here r x (s .1 .positive)),
-    )
-held-of v (AquiferTransfer a u x) s c w =
-    let unit = c (pred u) (omega (arith, s .1 .positive, s .1 .within)) in (
-      s .0 .positive,
-      s .0 .within,
-      s .1 .positive,
-      s .1 .within,
-      omega (arith, w (pred a) (omega (arith, s .0 .positive, s .0 .within)), here a x (s .0 .positive)),
-      omega (arith, unit .2, here u x (s .1 .positive)),
-    )
+  units-hold : UnitsTake held (v .units) (v .unit) (postings (titleOf v n) (returnOf (titleOf v n)))
+  units-hold =
+      let p = postings (titleOf v n) (returnOf (titleOf v n)) in
+      record {
+        extraction = takes-of held _ (v .units) (p .extraction) (names .extraction) (λ j h. holds Extraction j _ (s .covered j h .extraction));
+        exports = takes-of held _ (v .units) (p .exports) (names .exports) (λ j h. holds Exports j _ (s .covered j h .exports));
+        imports = takes-of held _ (v .units) (p .imports) (names .imports) (λ j h. holds Imports j _ (s .covered j h .imports));
+        returns = takes-of held _ (v .units) (p .returns) (names .returns) (λ j h. holds Returns j _ (s .covered j h .returns));
+      }
 
-pub held-in-force : (v : View) (n : ℕ) → Soundness v → InForce v n → Held v (titleOf v n)
-held-in-force v n s f =
-    held-of v (titleOf v n) (s .place (pred n) (omega (arith, f .given .positive, f .given .within)) .in-force (f .stands))
-    (covers v n s f) (covers-well v n s f)
+  wells-hold : WellsTake held (v .aquifers) (v .aquifer) (postings (titleOf v n) (returnOf (titleOf v n)))
+  wells-hold =
+      takes-of held _ (v .aquifers) (postings (titleOf v n) (returnOf (titleOf v n)) .wells) (names .wells)
+      (λ j h. holds WellExtraction j _ (s .well-covered j h))
 
--- The view of the balance without a title is the view with that title cancelled.
-pub without-view : (b : Balance) (n : ℕ) → Sized b → Soundness (viewOf b) → InForce (viewOf b) n → viewOf (withoutTitle b n) ≡ cancelled (viewOf b) n
-without-view b n z s f =
-    let t = titleOf (viewOf b) n in
-    let held = held-in-force (viewOf b) n s f in
-    λ i.
-    record {
-      units = b .«unit_count»;
-      unit = λ k. unit-lowered (viewOf b) t (b .units) k (omega (arith, z .units, s .few-units)) held i;
-      aquifers = b .«aquifer_count»;
-      aquifer = λ k. well-lowered (viewOf b) t (b .aquifers) k (omega (arith, z .aquifers, s .few-aquifers)) held i;
-      given = b .given;
-      place =
-          λ k. place-set (b .titles) (pred n) k (record { title = t; «in_force» = false })
-          (omega (arith, z .titles, s .few-titles, f .given .positive, f .given .within)) i;
-    }
+module _ (b : Balance) (n : ℕ) (s : Soundness (viewOf b)) (f : InForce (viewOf b) n) where
+  -- A title in force can be taken back.
+  pub takable-in-force : Takable b (titleOf (viewOf b) n)
+  takable-in-force =
+      let v = viewOf b in
+      record {
+        units = units-more held (v .unit) _ (v .units) 64 (s .few-units) (units-hold v n s f);
+        wells = wells-more held (v .aquifer) (postings (titleOf v n) (returnOf (titleOf v n))) (v .aquifers) 32 (s .few-aquifers) (wells-hold v n s f);
+      }
+
+  -- The view of the balance without it is the view with that title cancelled.
+  pub cancelled-view : Sized b → viewOf (withoutTitle b n) ≡ cancelled (viewOf b) n
+  cancelled-view z = without-view b n z (f .given .positive) (omega (arith, f .given .within, s .few-titles)) takable-in-force

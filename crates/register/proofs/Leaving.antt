@@ -1,5 +1,5 @@
 -- The reply to a cancellation by its outcomes, and that an accepted one never hands out a balance that falls under 0. Assumes nothing.
-use Prim.Native.Nat.{ℕ, pred, _<_}
+use Prim.Native.Nat.{ℕ, pred, _-_, _<_}
 use mathlib.Core.Path.{_≡_, refl, sym, ap, subst⁻¹, _∙_}
 use mathlib.Core.Bool.{Bool, true, false, not, true≢false}
 use native.Mathlib.Omega.{arith}
@@ -13,20 +13,22 @@ use Rattle.model.specs.declared.Answer.the-variants.{Accepted}
 use Rattle.model.specs.declared.Balance.{Balance}
 use Rattle.model.specs.View.{View, viewOf}
 use Rattle.model.specs.Answers.{Refusal, none, number, refuse}
+use Rattle.titles.specs.Adds.{returnOf}
 use Rattle.titles.specs.declared.Slot.the-variants.{Extraction, Exports, Imports, Returns, WellExtraction}
 use Rattle.river.specs.Flow.{Ready}
 use Rattle.basin.specs.Sound.{sound, flowing}
 use Rattle.basin.proofs.Soundness.{UnitSound, AquiferSound, PlaceSound, Soundness, soundness, sound-of, ready-of}
 use Rattle.register.specs.Reply.{afterTest, replied}
 use Rattle.effect.specs.Granted.{Sized}
-use Rattle.effect.specs.Cancelled.{loweredUnit, loweredAquifer, titleOf, cancelled, withoutTitle}
+use Rattle.effect.specs.Effect.{changedUnit, changedAquifer}
+use Rattle.effect.specs.Cancelled.{titleOf, cancelled, withoutTitle}
 use Rattle.register.specs.Cancel.{inForce, cancelRefusal, cancelReply}
 use Rattle.register.specs.declared.Reply.{Reply}
-use Rattle.register.proofs.Cancelling.{in-force-of, one-less, without-view}
+use Rattle.register.proofs.Cancelling.{in-force-of, one-less, cancelled-view}
 use Rattle.register.proofs.Staying.{not-refused}
 
 -- Entries that are lowered stay within the limit.
-unit-lower : (t : Title) (n k : ℕ) (u : Unit) → UnitSound n k u → UnitSound n k (loweredUnit t k u)
+unit-lower : (t : Title) (n k : ℕ) (u : Unit) → UnitSound n k u → UnitSound n k (changedUnit _-_ t (returnOf t) k u)
 unit-lower t n k u s =
     record {
       extraction = omega (arith, s .extraction);
@@ -43,7 +45,7 @@ unit-lower t n k u s =
       outlet = s .outlet;
     }
 
-aquifer-lower : (t : Title) (k : ℕ) (a : Aquifer) → AquiferSound a → AquiferSound (loweredAquifer t k a)
+aquifer-lower : (t : Title) (k : ℕ) (a : Aquifer) → AquiferSound a → AquiferSound (changedAquifer _-_ t (returnOf t) k a)
 aquifer-lower t k a s =
     record {
       rise = s .rise;
@@ -143,5 +145,5 @@ pub cancel-sound : (b : Balance) (n : ℕ) → Sized b → cancelReply b n .answ
 cancel-sound b n z a =
     let f = cancel-released b n a in
     subst⁻¹ (λ (x : Balance). sound (viewOf x) ≡ true) (ap (λ (r : Reply). r .balance) (sym (released-reply b n f)))
-    (subst⁻¹ (λ (w : View). sound w ≡ true) (without-view b n z (soundness (viewOf b) (f .sound-before)) (in-force-of (viewOf b) n (f .stands)))
+    (subst⁻¹ (λ (w : View). sound w ≡ true) (cancelled-view b n (soundness (viewOf b) (f .sound-before)) (in-force-of (viewOf b) n (f .stands)) z)
     (cancelled-sound (viewOf b) n (f .sound-before) (f .stands) (f .flows)))

@@ -10,7 +10,10 @@ use Rattle.model.specs.View.{viewOf}
 use Rattle.model.specs.Answers.{Refusal, none, number, refuse}
 use Rattle.basin.specs.Sound.{sound}
 use Rattle.basin.proofs.Soundness.{soundness}
-use Rattle.effect.specs.Granted.{granted, posted, Grantable}
+use Rattle.titles.specs.Posting.{postings}
+use Rattle.titles.specs.Adds.{returnOf}
+use Rattle.effect.specs.Granted.{granted, posted, lacking, Grantable}
+use Rattle.effect.proofs.Taking.{units-more, wells-more}
 use Rattle.refusal.specs.Grant.{noWater, grantRefusal}
 use Rattle.register.specs.Reply.{afterTest, replied, grantReply}
 use Rattle.refusal.specs.Steps.{earlyNumber}
@@ -19,9 +22,14 @@ use Rattle.refusal.proofs.Granting.{judged, grant-judged, granting-of}
 module _ (b : Balance) (t : Title) where
   pub grantable-of : sound (viewOf b) ≡ true → earlyNumber (viewOf b) t ≡ 0 → Grantable b t
   grantable-of e q =
-      let s = soundness (viewOf b) e in
-      let g = granting-of (viewOf b) t q in
-      record { room = g .room; units = s .few-units; aquifers = s .few-aquifers; named = g .named; fits = g .fits }
+      let v = viewOf b in
+      let s = soundness v e in
+      let g = granting-of v t q in
+      record {
+        room = g .room;
+        units = units-more lacking (v .unit) _ (v .units) 64 (s .few-units) (g .units);
+        wells = wells-more lacking (v .aquifer) (postings t (returnOf t)) (v .aquifers) 32 (s .few-aquifers) (g .wells);
+      }
 
   by-refusal : (r : Refusal) → afterTest b (grantRefusal (viewOf b) t) ≡ r → replied r b (posted b t) (b .given + 1) ≡ grantReply b t
   by-refusal r e = ap (λ (x : Refusal). replied x b (posted b t) (b .given + 1)) (sym e)

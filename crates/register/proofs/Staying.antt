@@ -6,43 +6,44 @@ use lib.Signed.{nonNeg, _≤ℤ_}
 use native.Mathlib.Omega.{arith}
 use borrow.Author.Tests.{eq-eqb, ne-eqb}
 use Rattle.laws.proofs.Cases.{by-bool, by-eq}
-use Rattle.laws.proofs.Parts.{parts-le}
+use Rattle.laws.proofs.Putting.{sum-put-next}
 use Rattle.model.specs.declared.Unit.{Unit}
 use Rattle.model.specs.declared.Title.{Title}
 use Rattle.model.specs.declared.Title.the-variants.{UnitWithdrawal, AquiferWithdrawal, UnitTransfer, AquiferTransfer}
 use Rattle.model.specs.declared.Answer.{Answer}
 use Rattle.model.specs.declared.Answer.the-variants.{Accepted, Refused}
 use Rattle.model.specs.declared.Balance.{Balance}
+use Rattle.model.specs.Entries.{placeOf}
 use Rattle.model.specs.View.{View, viewOf}
-use Rattle.titles.specs.Adds.{adds, titled}
+use Rattle.titles.specs.Adds.{returnOf, adds, placeAdds, titled}
 use Rattle.titles.specs.declared.Slot.{Slot}
 use Rattle.titles.specs.declared.Slot.the-variants.{Extraction, Exports, Imports, Returns, WellExtraction}
-use Rattle.titles.proofs.Adding.{place-granted}
 use Rattle.river.specs.Flow.{flow, net, downstream, Ready}
-use Rattle.river.proofs.Flows.{net-parts}
+use Rattle.river.proofs.Flows.{net-no-less}
 use Rattle.laws.proofs.Every.{every-each}
 use Rattle.basin.specs.Sound.{sound}
 use Rattle.basin.proofs.Soundness.{PlaceSound, Soundness, soundness, sound-of, ready-of}
 use Rattle.reach.specs.Reach.{outlet, sameBasin}
 use Rattle.reach.proofs.Ways.{outlet-same}
 use Rattle.reach.proofs.Local.{flow-outside, flow-raised}
-use Rattle.effect.specs.Granted.{posted, granted, raisedUnit, Sized}
+use Rattle.effect.specs.Effect.{changedUnit}
+use Rattle.effect.specs.Granted.{posted, granted, Sized}
 use Rattle.refusal.specs.Grant.{wanting, dry, noWater}
 use Rattle.model.specs.Answers.{none}
 use Rattle.register.specs.Reply.{replied, grantReply}
 use Rattle.refusal.specs.Steps.{earlyNumber}
 use Rattle.register.specs.declared.Reply.{Reply}
-use Rattle.effect.proofs.Raising.{elsewhere}
+use Rattle.effect.proofs.Taking.{elsewhere}
 use Rattle.refusal.proofs.Granting.{Granting, granting-of, unit-stays, aquifer-stays}
-use Rattle.effect.proofs.Posting.{posted-view}
+use Rattle.effect.proofs.Changing.{posted-view}
 use Rattle.register.proofs.Replies.{grantable-of, reply-unsound, reply-early, reply-dry, reply-given}
 
 -- A unit from which the title takes nothing adds no less to the river.
-no-less : (t : Title) (k : ℕ) (u : Unit) → adds t Extraction k ≡ 0 → adds t Exports k ≡ 0 → net u ≤ℤ net (raisedUnit t k u)
+no-less : (t : Title) (k : ℕ) (u : Unit) → adds t (returnOf t) Extraction k ≡ 0 → adds t (returnOf t) Exports k ≡ 0
+    → net u ≤ℤ net (changedUnit _+_ t (returnOf t) k u)
 no-less t k u e f =
-    let p = net-parts u in
-    let q = net-parts (raisedUnit t k u) in
-    parts-le (net u) (net (raisedUnit t k u)) (omega (arith, p .parts, q .parts))
+    let w = changedUnit _+_ t (returnOf t) k u in
+    net-no-less u (w .extraction) (w .exports) (w .imports) (w .returns) (omega arith) (omega arith) (omega arith) (omega arith)
 
 -- A unit of the basin of a unit whose basin is not dry has a flow that is not negative.
 not-dry : (w : View) (j k : ℕ) → k < w .units → dry w j ≡ false → sameBasin w j k ≡ true → nonNeg (flow w k) ≡ true
@@ -73,7 +74,7 @@ module _ (v : View) (t : Title) (s : Soundness v) (g : Granting v t) where
 
   -- Where water is taken from one basin only, and that basin is not dry with the title in, no flow is negative.
   basin-flows : (n : ℕ) → 0 < n → n ≤ v .units → dry (granted v t) (pred n) ≡ false
-      → ((k : ℕ) → (n ≡ suc k → ⊥) → (adds t Extraction k ≡ 0) × (adds t Exports k ≡ 0))
+      → ((k : ℕ) → (n ≡ suc k → ⊥) → (adds t (returnOf t) Extraction k ≡ 0) × (adds t (returnOf t) Exports k ≡ 0))
       → (j : ℕ) → j < v .units → nonNeg (flow (granted v t) j) ≡ true
   basin-flows n p l d a j h =
       by-bool (sameBasin (granted v t) (pred n) j)
@@ -87,15 +88,13 @@ module _ (v : View) (t : Title) (s : Soundness v) (g : Granting v t) where
       (s .flowing j h))
 
   -- Where no unit gives water, no flow falls.
-  well-flows : ((k : ℕ) → (adds t Extraction k ≡ 0) × (adds t Exports k ≡ 0)) → (j : ℕ) → j < v .units → nonNeg (flow (granted v t) j) ≡ true
+  well-flows : ((k : ℕ) → (adds t (returnOf t) Extraction k ≡ 0) × (adds t (returnOf t) Exports k ≡ 0)) → (j : ℕ) → j < v .units → nonNeg (flow (granted v t) j) ≡ true
   well-flows a j h =
       flow-raised v (granted v t) same (λ k m. no-less t k (v .unit k) (a k .0) (a k .1)) j h (s .flowing j h)
 
   -- What the titles in force add together, with one more.
-  one-more : (k : Slot) (j : ℕ) → titled (granted v t) (suc (v .given)) k j ≡ titled v (v .given) k j + adds t k j
-  one-more k j =
-      place-granted k j (v .given) (v .place) (granted v t .place) t (λ m h. rw (ne-eqb m (v .given) (omega arith)) refl)
-      (rw (eq-eqb (v .given) (v .given) refl) refl)
+  one-more : (k : Slot) (j : ℕ) → titled (granted v t) (suc (v .given)) k j ≡ titled v (v .given) k j + adds t (returnOf t) k j
+  one-more k j = sum-put-next (λ p. placeAdds p k j) (v .place) (v .given) (placeOf t true)
 
   place-stays : (k : ℕ) → k < suc (v .given) → PlaceSound (v .units) (v .aquifers) (granted v t .place k)
   place-stays k h =
@@ -128,10 +127,10 @@ module _ (v : View) (t : Title) (s : Soundness v) (g : Granting v t) where
 pub granted-flows : (v : View) (t : Title) → Soundness v → Granting v t → noWater (granted v t) t ≡ false
     → (j : ℕ) → j < v .units → nonNeg (flow (granted v t) j) ≡ true
 granted-flows v (UnitWithdrawal u r x) s g d =
-    basin-flows v (UnitWithdrawal u r x) s g u (g .named .0) (g .named .1) d (λ k e. (elsewhere u k x e, refl))
+    basin-flows v (UnitWithdrawal u r x) s g u (g .units .extraction .0) (g .units .extraction .1) d (λ k e. (elsewhere u x k e, refl))
 granted-flows v (AquiferWithdrawal a x) s g d = well-flows v (AquiferWithdrawal a x) s g (λ k. (refl, refl))
 granted-flows v (UnitTransfer n r x) s g d =
-    basin-flows v (UnitTransfer n r x) s g n (g .named .0) (g .named .1) d (λ k e. (refl, elsewhere n k x e))
+    basin-flows v (UnitTransfer n r x) s g n (g .units .exports .0) (g .units .exports .1) d (λ k e. (refl, elsewhere n x k e))
 granted-flows v (AquiferTransfer a u x) s g d = well-flows v (AquiferTransfer a u x) s g (λ k. (refl, refl))
 
 -- A sound view stays sound with a title in that no refusal meets.

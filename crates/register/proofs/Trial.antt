@@ -19,17 +19,16 @@ use Rattle.figures.specs.Figures.{WellsReady, aquifersView}
 use Rattle.figures.proofs.Aquifers.{wells-alone}
 use Rattle.basin.specs.Sound.{sound, flowing}
 use Rattle.basin.proofs.Soundness.{soundness}
-use Rattle.effect.specs.Granted.{granted, postedUnits, postedWells, posted, Sized, Named}
-use Rattle.effect.specs.Cancelled.{titleOf, cancelled, withoutTitle, loweredUnits, UnitsHeld, Takable}
-use Rattle.effect.proofs.Posting.{posted-view}
-use Rattle.effect.proofs.Lowering.{units-held}
+use Rattle.effect.specs.Granted.{granted, raisedUnits, raisedWells, posted, Sized, Named}
+use Rattle.effect.specs.Cancelled.{titleOf, cancelled, withoutTitle, loweredUnits, Takable}
+use Rattle.effect.proofs.Changing.{posted-view}
 use Rattle.refusal.specs.Grant.{noWater}
 use Rattle.refusal.specs.Steps.{earlyNumber, entriesView}
-use Rattle.refusal.proofs.Granting.{granting-of, granted-ready, granted-wells-ready, granted-named}
-use Rattle.refusal.proofs.Giving.{water-untitled, named-untitled}
+use Rattle.refusal.proofs.Granting.{granting-of, granting-named, granted-ready, granted-wells-ready}
+use Rattle.refusal.proofs.Giving.{water-untitled}
 use Rattle.register.specs.Cancel.{inForce}
 use Rattle.register.proofs.Replies.{grantable-of}
-use Rattle.register.proofs.Cancelling.{in-force-of, held-in-force, without-view}
+use Rattle.register.proofs.Cancelling.{in-force-of, takable-in-force, cancelled-view}
 use Rattle.register.proofs.Leaving.{cancelled-ready}
 
 -- Units and aquifers in which the water of a title can be looked at.
@@ -39,7 +38,7 @@ Trial b t us ws =
     × Named (entriesView us (b .«unit_count») ws (b .«aquifer_count») 0) t
 
 module _ (b : Balance) (t : Title) (us : List Unit) (ws : List Aquifer) (z : Sized b) (e : sound (viewOf b) ≡ true)
-    (q : earlyNumber (viewOf b) t ≡ 0) (u : us ≡ postedUnits t (b .units)) (w : ws ≡ postedWells t (b .aquifers)) where
+    (q : earlyNumber (viewOf b) t ≡ 0) (u : us ≡ raisedUnits t (b .units)) (w : ws ≡ raisedWells t (b .aquifers)) where
   view : viewOf (posted b t) ≡ granted (viewOf b) t
   view = posted-view b t z (grantable-of b t e q)
 
@@ -50,10 +49,10 @@ module _ (b : Balance) (t : Title) (us : List Unit) (ws : List Aquifer) (z : Siz
       let g = granting-of (viewOf b) t q in
       let v = viewOf (posted b t) in
       subst⁻¹ (λ (x : List Unit). Trial b t x ws) u
-      (subst⁻¹ (λ (y : List Aquifer). Trial b t (postedUnits t (b .units)) y) w (
+      (subst⁻¹ (λ (y : List Aquifer). Trial b t (raisedUnits t (b .units)) y) w (
         ready-alone v (subst⁻¹ Ready view (granted-ready (viewOf b) t s g)),
         wells-alone (posted b t) (subst⁻¹ WellsReady view (granted-wells-ready (viewOf b) t s g)),
-        named-untitled v 0 t (subst⁻¹ (λ (x : View). Named x t) view (granted-named (viewOf b) t (g .named))),
+        granting-named (viewOf b) t g,
       ))
 
   -- The water of a title, in the arrays with the title in.
@@ -84,16 +83,11 @@ flowing-alone v = λ i. every (v .units) (λ j. nonNeg (flow-alone v j i))
 module _ (b : Balance) (n : ℕ) (e : sound (viewOf b) ≡ true) (q : inForce (viewOf b) n ≡ true) where
   -- A title in force can be taken back.
   pub takable : Takable b (titleOf (viewOf b) n)
-  takable =
-      let s = soundness (viewOf b) e in
-      record { units = s .few-units; aquifers = s .few-aquifers; held = held-in-force (viewOf b) n s (in-force-of (viewOf b) n q) }
-
-  pub held-units : UnitsHeld (titleOf (viewOf b) n) (b .units)
-  held-units = units-held b (titleOf (viewOf b) n) takable
+  takable = takable-in-force b n (soundness (viewOf b) e) (in-force-of (viewOf b) n q)
 
   module _ (z : Sized b) where
     left : viewOf (withoutTitle b n) ≡ cancelled (viewOf b) n
-    left = without-view b n z (soundness (viewOf b) e) (in-force-of (viewOf b) n q)
+    left = cancelled-view b n (soundness (viewOf b) e) (in-force-of (viewOf b) n q) z
 
     -- The units without the title can be worked out.
     pub lowered-ready : Ready (unitsView (loweredUnits (titleOf (viewOf b) n) (b .units)) (b .«unit_count»))

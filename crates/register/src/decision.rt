@@ -31,8 +31,8 @@ fn grant_answer(b: Balance, t: Title) -> Answer
     if 0 < number {
         return Answer::Refused(number);
     }
-    let raised = effect::posted_units(units, t);
-    let drawn = effect::posted_wells(aquifers, t);
+    let raised = effect::raised_units(units, t);
+    let drawn = effect::raised_wells(aquifers, t);
     if refusal::no_water(raised, n, drawn, m, t) {
         return Answer::Refused(17);
     }

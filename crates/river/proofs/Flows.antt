@@ -4,12 +4,14 @@ use mathlib.Core.Path.{_≡_, refl}
 use mathlib.Core.Bool.{Bool, true, false}
 use native.Mathlib.Omega.{arith}
 use lib.IntN.{_+ℤ_}
+use lib.Signed.{_≤ℤ_}
 use Rattle.laws.specs.Sum.{naturals, integers}
 use Rattle.laws.specs.Gather.{arriving}
 use Rattle.laws.proofs.Gathering.{Tree, gather-is, gather-within, related-gather, sum-bounded, sum-prefix}
 use Rattle.model.specs.View.{View}
-use Rattle.laws.proofs.Parts.{Less, less-pos, less-self, less-plus, less-minus}
+use Rattle.laws.proofs.Parts.{Less, less-pos, less-self, less-plus, less-minus, parts-le}
 use Rattle.model.specs.declared.Unit.{Unit}
+use Rattle.model.specs.Entries.{withEntries}
 use Rattle.river.specs.Flow.{downstream, net, flow, part, gain, loss, gathered, Ready, Small}
 
 pub tree : (v : View) → Ready v → Tree (downstream v) (v .units)
@@ -59,6 +61,14 @@ net-parts u =
     let p = less-minus (less-minus (less-minus (less-minus (less-plus (less-plus (less-pos (u .runoff)) (less-pos (u .returns)))
     (less-pos (u .imports))) (less-pos (u .exports))) (less-pos (u .extraction))) (less-pos (u .evaporation))) (less-self (u .storage)) in
     record { parts = omega (arith, p .parts) }
+
+-- A unit that loses no more and gains no less, all else being as it was, adds no less to the river.
+pub net-no-less : (u : Unit) (extraction exports imports returns : ℕ) → extraction ≤ u .extraction → exports ≤ u .exports
+    → u .imports ≤ imports → u .returns ≤ returns → net u ≤ℤ net (withEntries u extraction exports imports returns)
+net-no-less u e x i b p q r s =
+    let m = net-parts u in
+    let n = net-parts (withEntries u e x i b) in
+    parts-le (net u) (net (withEntries u e x i b)) (omega (arith, m .parts, n .parts))
 
 -- Flow is what is gained at a unit and above it, less what is lost there.
 pub flow-parts : (v : View) (j : ℕ) → Less (flow v j) (gathered v false j) (gathered v true j)

@@ -1,4 +1,3 @@
 pub mod Percents
-pub mod Posts
 pub mod Adding
 pub mod Raising

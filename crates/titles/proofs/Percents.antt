@@ -6,7 +6,7 @@ use lib.Dec.{eqb}
 use native.Mathlib.Nat.{mul-le-mul-left}
 use native.Mathlib.Omega.{arith}
 use borrow.Author.Tests.{ne-eqb}
-use Rattle.titles.specs.Adds.{returnPercent, returned}
+use Rattle.titles.specs.Adds.{returnPercent}
 
 cond-within : (t : Bool) (a b m : ℕ) → a ≤ m → b ≤ m → cond t a b ≤ m
 cond-within true a b m h g = h
@@ -22,10 +22,6 @@ percent-within u =
     (cond-within (eqb u 5) _ _ 100 (omega arith)
     (cond-within (eqb u 6) _ _ 100 (omega arith)
     (cond-within (eqb u 7) _ _ 100 (omega arith) (omega arith)))))))
-
--- No more returns than was withdrawn.
-pub returned-within : (usage volume : ℕ) → returned usage volume ≤ volume
-returned-within u v = omega (arith, mul-le-mul-left v (percent-within u))
 
 -- What the code divides by 100.
 pub scaled : (volume percent usage : ℕ) → percent ≡ returnPercent usage → volume * percent ≤ volume * 100

@@ -1,11 +1,12 @@
 -- The steps of the loop over the register. Assumes nothing.
-use Prim.Native.Nat.{ℕ, suc, _+_, _-_, _≤_, _<_}
+use Prim.Native.Nat.{ℕ, suc, _+_, _-_, _≤_, _<_, zero-le}
 use mathlib.Core.Path.{_≡_, refl, sym, ap, subst, _∙_}
 use mathlib.Core.Bool.{Bool, true, false}
 use mathlib.Core.List.{List}
 use lib.Dec.{eqb}
 use lib.ListN.{length, getD, set, replicate, length-set, getD-replicate}
 use lib.Seq.{getD-set-same, getD-set-other}
+use native.Mathlib.Nat.{le-refl}
 use native.Mathlib.Omega.{arith}
 use borrow.Author.Tests.{eq-eqb, ne-eqb}
 use Rattle.laws.specs.Sum.{naturals, only}
@@ -16,31 +17,43 @@ use Rattle.model.specs.declared.Title.{Title}
 use Rattle.titles.specs.declared.Slot.{Slot}
 use Rattle.titles.specs.declared.Slot.the-variants.{Extraction, Exports, Imports, Returns, WellExtraction}
 use Rattle.titles.specs.declared.Sums.{Sums}
-use Rattle.titles.specs.Posting.{Posting, nothing, titlePosting, whenInForce, posting}
-use Rattle.titles.specs.Titled.{Titled, Roomy, Raised, RoomyAll, RaisedBy, RaisedAll, TitledAll, sumsOf, five}
-use Rattle.titles.proofs.Posts.{place-posts, only-within}
-use Rattle.titles.proofs.Adding.{places-none, places-more}
+use Rattle.titles.specs.Posting.{Posting, nothing, post, posts}
+use Rattle.titles.specs.Adds.{placeAdds}
+use Rattle.titles.specs.Titled.{Titled, HasRoom, Raised, AllHaveRoom, RaisedBy, RaisedAll, TitledAll, sumsOf, five}
+use Rattle.titles.proofs.Adding.{places-none, places-more, in-force, out-of-force}
+
+only-within : (t : Bool) (a : ℕ) → only naturals t a ≤ a
+only-within true a = le-refl a
+only-within false a = zero-le
+
+-- An amount that is posted adds no more than itself.
+posted-within : (n a j : ℕ) → posts (post n a) j ≤ a
+posted-within n a j = only-within (eqb n (suc j)) a
 
 -- A number that is 0 or above 64 is no index's.
-pub raised-nowhere : (xs : List ℕ) (n a : ℕ) → length xs ≡ 64 → a ≤ 4294967295 → ((j : ℕ) → j < 64 → n ≡ suc j → ⊥) → Raised xs n a xs
+pub raised-nowhere : (xs : List ℕ) (n a : ℕ) → length xs ≡ 64 → a ≤ 4294967295 → ((j : ℕ) → j < 64 → n ≡ suc j → ⊥) → Raised xs (post n a) xs
 raised-nowhere xs n a l w out =
-    record { places = l; within = w; sums = λ j h. rw (ne-eqb n (suc j) (out j h)) (omega arith) }
+    record {
+      places = l;
+      within = λ j. omega (arith, posted-within n a j);
+      sums = λ j h. rw (ne-eqb n (suc j) (out j h)) (omega arith);
+    }
 
 -- Sums to which nothing is posted stay as they are.
-pub raised-none : (xs : List ℕ) → Roomy xs → Raised xs 0 0 xs
-raised-none xs r = raised-nowhere xs 0 0 (r .places) (omega arith) (λ j h e. omega arith)
+pub raised-none : (xs : List ℕ) → HasRoom xs → Raised xs nothing xs
+raised-none xs r = record { places = r .places; within = λ j. omega arith; sums = λ j h. omega arith }
 
 -- The same amount by another name.
-pub raised-amount : {xs r : List ℕ} {n a b : ℕ} → a ≡ b → Raised xs n a r → Raised xs n b r
-raised-amount {xs = xs} {r = r} {n = n} e h = subst (λ (a : ℕ). Raised xs n a r) e h
+pub raised-amount : {xs r : List ℕ} {n a b : ℕ} → a ≡ b → Raised xs (post n a) r → Raised xs (post n b) r
+raised-amount {xs = xs} {r = r} {n = n} e h = subst (λ (a : ℕ). Raised xs (post n a) r) e h
 
 -- The amount goes to index n - 1.
 pub raised-at : (xs : List ℕ) (n a : ℕ) → length xs ≡ 64 → a ≤ 4294967295 → 1 ≤ n → n ≤ 64
-    → Raised xs n a (set xs (n - 1) (getD xs (n - 1) 0 + a))
+    → Raised xs (post n a) (set xs (n - 1) (getD xs (n - 1) 0 + a))
 raised-at xs n a l w lo hi =
     record {
       places = length-set xs (n - 1) _ ∙ l;
-      within = w;
+      within = λ j. omega (arith, posted-within n a j);
       sums =
           λ j h. by-eq j (n - 1)
           (λ q. rw (eq-eqb n (suc j) (omega arith))
@@ -84,41 +97,31 @@ module _ (titles : List Place) where
 
   module _ (n : ℕ) where
     -- What stands for up to 256 places leaves room.
-    pub all-roomy : (xs : Sums) → n ≤ 256 → TitledAll titles n xs → RoomyAll xs
-    all-roomy xs h t s = record { places = t s .places; room = λ j l. omega (arith, t s .within j l) }
+    pub all-have-room : (xs : Sums) → n ≤ 256 → TitledAll titles n xs → AllHaveRoom xs
+    all-have-room xs h t s = record { places = t s .places; room = λ j l. omega (arith, t s .within j l) }
 
     -- One more place's posting is added.
-    titled-more : (s : Slot) (xs r : List ℕ) (q : Posting) → Titled titles n s xs
-        → q ≡ posting (getD titles n emptyPlace) s → Raised xs (q .number) (q .amount) r → Titled titles (n + 1) s r
-    titled-more s xs r q t e raised =
-        let place = getD titles n emptyPlace in
+    titled-more : (s : Slot) (xs r : List ℕ) (p : Posting) → Titled titles n s xs
+        → ((j : ℕ) → posts p j ≡ placeAdds (getD titles n emptyPlace) s j) → Raised xs p r → Titled titles (n + 1) s r
+    titled-more s xs r p t e raised =
         record {
           places = raised .places;
           sums =
-              λ j h. omega (
-                arith,
-                raised .sums j h,
-                t .sums j h,
-                places-more s j n (λ k. getD titles k emptyPlace),
-                place-posts place s j,
-                ap (λ (z : Posting). only naturals (eqb (z .number) (suc j)) (z .amount)) e,
-              );
-          within = λ j h. omega (arith, raised .within, raised .sums j h, t .within j h, only-within (eqb (q .number) (suc j)) (q .amount));
+              λ j h. omega (arith, raised .sums j h, t .sums j h, places-more s j n (λ k. getD titles k emptyPlace), e j);
+          within = λ j h. omega (arith, raised .within j, raised .sums j h, t .within j h);
         }
 
     -- A place whose title is in force adds what that posts, and any other nothing.
     pub all-more : (xs r : Sums) (p : Place) → p ≡ getD titles n emptyPlace → p .«in_force» ≡ true → TitledAll titles n xs
         → RaisedAll (p .title) xs r → TitledAll titles (n + 1) r
     all-more xs r p e f t raised s =
-        titled-more s _ _ (titlePosting (p .title) s) (t s)
-        (ap (λ (b : Bool). whenInForce b (titlePosting (p .title) s)) (sym f) ∙ ap (λ (z : Place). posting z s) e) (raised s)
+        titled-more s _ _ _ (t s) (λ j. sym (in-force s j p f) ∙ ap (λ (z : Place). placeAdds z s j) e) (raised s)
 
     pub all-kept : (xs : Sums) (p : Place) → p ≡ getD titles n emptyPlace → p .«in_force» ≡ false → n ≤ 256 → TitledAll titles n xs
         → TitledAll titles (n + 1) xs
     all-kept xs p e f h t s =
-        titled-more s _ _ nothing (t s)
-        (ap (λ (b : Bool). whenInForce b (titlePosting (p .title) s)) (sym f) ∙ ap (λ (z : Place). posting z s) e)
-        (raised-none _ (all-roomy xs h t s))
+        titled-more s _ _ nothing (t s) (λ j. sym (out-of-force s j p f) ∙ ap (λ (z : Place). placeAdds z s j) e)
+        (raised-none _ (all-have-room xs h t s))
 
     -- After the last place.
     pub all-done : (m : ℕ) (xs : Sums) → m ≤ n → n ≤ m → TitledAll titles n xs → TitledAll titles m xs

@@ -1,5 +1,5 @@
 -- What titles add to the entries (document 01, "Titles"). Assumes nothing.
-use Prim.Native.Nat.{ℕ, suc, _*_, _/_}
+use Prim.Native.Nat.{ℕ, _*_, _/_}
 use mathlib.Core.Bool.{cond}
 use lib.Dec.{eqb}
 use Rattle.laws.specs.Sum.{naturals, sumOf, only}
@@ -7,8 +7,8 @@ use Rattle.model.specs.declared.Title.{Title}
 use Rattle.model.specs.declared.Title.the-variants.{UnitWithdrawal, AquiferWithdrawal, UnitTransfer, AquiferTransfer}
 use Rattle.model.specs.declared.Place.{Place}
 use Rattle.titles.specs.declared.Slot.{Slot}
-use Rattle.titles.specs.declared.Slot.the-variants.{Extraction, Exports, Imports, Returns, WellExtraction}
 use Rattle.model.specs.View.{View}
+use Rattle.titles.specs.Posting.{posts, slot, postings}
 
 -- The percentage of a use that returns (000, 4.2.5): 1 agriculture 20, 2 urban 75, 3 industry 55, 4 domestic 75, 5 livestock 15,
 -- 6 aquaculture 100, 7 power 100.
@@ -21,37 +21,20 @@ returnPercent r =
 abbrev pub returned : ℕ → ℕ → ℕ
 returned usage volume = volume * returnPercent usage / 100
 
-abbrev at : ℕ → ℕ → ℕ → ℕ
-at j number volume = only naturals (eqb number (suc j)) volume
+-- The return of a title: that of its use and volume for a withdrawal from a unit, 0 for the other kinds.
+abbrev pub returnOf : Title → ℕ
+returnOf (UnitWithdrawal u r v) = returned r v
+returnOf (AquiferWithdrawal a v) = 0
+returnOf (UnitTransfer g r v) = 0
+returnOf (AquiferTransfer a u v) = 0
 
--- What a title adds to an entry of the unit or aquifer at index j. A withdrawal from a unit adds its volume to the extraction and its
--- return to the returns; a withdrawal from an aquifer to the aquifer's extraction; a transfer from a unit to the giver's exports and the
--- receiver's imports; a transfer from an aquifer to the aquifer's extraction and the unit's imports.
-abbrev pub adds : Title → Slot → ℕ → ℕ
-adds (UnitWithdrawal u r v) Extraction j = at j u v
-adds (UnitWithdrawal u r v) Exports j = 0
-adds (UnitWithdrawal u r v) Imports j = 0
-adds (UnitWithdrawal u r v) Returns j = at j u (returned r v)
-adds (UnitWithdrawal u r v) WellExtraction j = 0
-adds (AquiferWithdrawal a v) Extraction j = 0
-adds (AquiferWithdrawal a v) Exports j = 0
-adds (AquiferWithdrawal a v) Imports j = 0
-adds (AquiferWithdrawal a v) Returns j = 0
-adds (AquiferWithdrawal a v) WellExtraction j = at j a v
-adds (UnitTransfer g r v) Extraction j = 0
-adds (UnitTransfer g r v) Exports j = at j g v
-adds (UnitTransfer g r v) Imports j = at j r v
-adds (UnitTransfer g r v) Returns j = 0
-adds (UnitTransfer g r v) WellExtraction j = 0
-adds (AquiferTransfer a u v) Extraction j = 0
-adds (AquiferTransfer a u v) Exports j = 0
-adds (AquiferTransfer a u v) Imports j = at j u v
-adds (AquiferTransfer a u v) Returns j = 0
-adds (AquiferTransfer a u v) WellExtraction j = at j a v
+-- What a title with its return adds to an entry of the unit or aquifer at index j.
+abbrev pub adds : Title → ℕ → Slot → ℕ → ℕ
+adds t back s j = posts (slot (postings t back) s) j
 
 -- What a place adds: its title's amount if that is in force.
 abbrev pub placeAdds : Place → Slot → ℕ → ℕ
-placeAdds p s j = only naturals (p .«in_force») (adds (p .title) s j)
+placeAdds p s j = only naturals (p .«in_force») (adds (p .title) (returnOf (p .title)) s j)
 
 -- What the titles in force among the first n add together to an entry.
 abbrev pub titled : View → ℕ → Slot → ℕ → ℕ

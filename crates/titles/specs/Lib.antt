@@ -1,4 +1,4 @@
 -- What titles add to the entries of units and aquifers.
-pub mod Adds
 pub mod Posting
+pub mod Adds
 pub mod Titled

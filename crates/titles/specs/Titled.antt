@@ -1,10 +1,9 @@
 -- What the functions over the register give back. Assumes nothing.
-use Prim.Native.Nat.{ℕ, suc, _+_, _<_, _≤_, _*_}
+use Prim.Native.Nat.{ℕ, _+_, _<_, _≤_, _*_}
 use mathlib.Core.Path.{_≡_}
 use mathlib.Core.List.{List}
-use lib.Dec.{eqb}
 use lib.ListN.{length, getD}
-use Rattle.laws.specs.Sum.{naturals, sumOf, only}
+use Rattle.laws.specs.Sum.{naturals, sumOf}
 use Rattle.model.specs.declared.Place.{Place}
 use Rattle.model.specs.Fresh.{emptyPlace}
 use Rattle.titles.specs.declared.Slot.{Slot}
@@ -12,8 +11,8 @@ use Rattle.titles.specs.declared.Slot.the-variants.{Extraction, Exports,
 use Rattle.titles.specs.declared.Sums.{Sums}
 use Rattle.model.specs.declared.Title.{Title}
 use Rattle.model.specs.Limits.{unitLimit, titleLimit}
-use Rattle.titles.specs.Adds.{placeAdds}
-use Rattle.titles.specs.Posting.{titlePosting}
+use Rattle.titles.specs.Posting.{Posting, posts, slot, postings}
+use Rattle.titles.specs.Adds.{returnOf, placeAdds}
 
 -- Sixty-four sums, one for each index: what the first n places of a list add together to an entry of the unit or aquifer there.
 pub record Titled (titles : List Place) (n : ℕ) (s : Slot) (r : List ℕ) : Type 0 where
@@ -22,15 +21,15 @@ pub record Titled (titles : List Place) (n : ℕ) (s : Slot) (r : List ℕ) : Ty
   pub within : (j : ℕ) → j < unitLimit → getD r j 0 ≤ n * 4294967295
 
 -- Sixty-four amounts that have room for one more posting each.
-pub record Roomy (xs : List ℕ) : Type 0 where
+pub record HasRoom (xs : List ℕ) : Type 0 where
   pub places : length xs ≡ unitLimit
   pub room : (j : ℕ) → j < unitLimit → getD xs j 0 ≤ titleLimit * 4294967295
 
--- The amount of one posting, a number of 32 bits, is added at its number, and nowhere else.
-pub record Raised (xs : List ℕ) (number amount : ℕ) (r : List ℕ) : Type 0 where
+-- What is posted, a number of 32 bits, is added at each index.
+pub record Raised (xs : List ℕ) (p : Posting) (r : List ℕ) : Type 0 where
   pub places : length r ≡ unitLimit
-  pub within : amount ≤ 4294967295
-  pub sums : (j : ℕ) → j < unitLimit → getD r j 0 ≡ getD xs j 0 + only naturals (eqb number (suc j)) amount
+  pub within : (j : ℕ) → posts p j ≤ 4294967295
+  pub sums : (j : ℕ) → j < unitLimit → getD r j 0 ≡ getD xs j 0 + posts p j
 
 -- The sums of one entry, among those of all five.
 abbrev pub sumsOf : Sums → Slot → List ℕ
@@ -46,12 +45,12 @@ five extraction exports imports returns wells =
     record { extraction = extraction; exports = exports; imports = imports; returns = returns; wells = wells }
 
 -- Each of the five has room for one more posting.
-abbrev pub RoomyAll : Sums → Type 0
-RoomyAll r = (s : Slot) → Roomy (sumsOf r s)
+abbrev pub AllHaveRoom : Sums → Type 0
+AllHaveRoom r = (s : Slot) → HasRoom (sumsOf r s)
 
 -- What a title posts to an entry is added, and that at each of the five.
 abbrev pub RaisedBy : Title → Slot → List ℕ → List ℕ → Type 0
-RaisedBy t s xs r = Raised xs (titlePosting t s .number) (titlePosting t s .amount) r
+RaisedBy t s xs r = Raised xs (slot (postings t (returnOf t)) s) r
 
 abbrev pub RaisedAll : Title → Sums → Sums → Type 0
 RaisedAll t xs r = (s : Slot) → RaisedBy t s (sumsOf xs s) (sumsOf r s)

@@ -3,6 +3,7 @@ use model::Balance;
 use model::Title;
 ghost use mathlib.Core.Path.{_≡_};
 ghost use Rattle.titles.specs.Adds as adds;
+ghost use Rattle.titles.specs.Posting.{post};
 ghost use Rattle.titles.specs.Titled as whole;
 
 // The entries that titles raise.
@@ -50,8 +51,8 @@ pub fn returned(usage: u8, volume: u32) -> u32
 
 // The amount of one posting is added at its number. A number that is 0 or above 64 is passed over.
 fn raise(sums: &mut [u64; Balance::UNITS], number: u8, amount: u32)
-    requires { ⌜ whole.Roomy (now sums) ⌝ }
-    ensures { λ _. ⌜ whole.Raised (now (sums .entry)) number amount (now (sums .exit)) ⌝ }
+    requires { ⌜ whole.HasRoom (now sums) ⌝ }
+    ensures { λ _. ⌜ whole.Raised (now (sums .entry)) (post number amount) (now (sums .exit)) ⌝ }
 {
     if number < 1 {
         return;
@@ -74,7 +75,7 @@ pub fn add(
     returns: &mut [u64; Balance::UNITS],
     wells: &mut [u64; Balance::UNITS],
 )
-    requires { ⌜ whole.RoomyAll (whole.five (now extraction) (now exports) (now imports) (now returns) (now wells)) ⌝ }
+    requires { ⌜ whole.AllHaveRoom (whole.five (now extraction) (now exports) (now imports) (now returns) (now wells)) ⌝ }
     ensures { λ _. ⌜ whole.RaisedAll title
         (whole.five (now (extraction .entry)) (now (exports .entry)) (now (imports .entry)) (now (returns .entry)) (now (wells .entry)))
         (whole.five (now (extraction .exit)) (now (exports .exit)) (now (imports .exit)) (now (returns .exit)) (now (wells .exit))) ⌝ }

@@ -9,7 +9,7 @@ use lib.ListN.{getD}
 use Rattle.laws.proofs.Every.{each-every, every-fails}
 use Rattle.model.specs.Fresh.{emptyPlace}
 use Rattle.titles.specs.Titled.{TitledAll, five}
-use Rattle.titles.proofs.Raising.{all-none, all-roomy, all-more, all-kept, all-done}
+use Rattle.titles.proofs.Raising.{all-none, all-have-room, all-more, all-kept, all-done}
 use Rattle.model.specs.View.{View}
 use Rattle.basin.specs.Sound.{soundPlace, soundTitles, aquifersHold, partsView}
 use Rattle.basin.proofs.Chains.{go, call-holds, call-fails, first-fails, stop-call, go-call}
@@ -58,7 +58,7 @@ returns c =
 add-requires : tie.Need-add-requires Inv-loop μ-loop
 add-requires c κs =
     let at = c .before .before .before .before .before .before .before .before .before .before in
-    all-roomy _ (at .loop .k) _ (omega (arith, at .loop .inv .0, at .before .pre)) (at .loop .inv .2)
+    all-have-room _ (at .loop .k) _ (omega (arith, at .loop .inv .0, at .before .pre)) (at .loop .inv .2)
 
 loop-less : tie.Need-loop-less Inv-loop μ-loop
 loop-less c = omega arith

@@ -1,13 +1,11 @@
 -- `effect::post` meets its contract. Assumes nothing.
 use Prim.Native.Nat.{_+_}
+use mathlib.Core.Bool.{true}
 use lib.ListN.{set}
 use borrow.Author.Needs.{needs}
-use Rattle.effect.proofs.Posting.{units-fit, wells-fit}
+use Rattle.model.specs.Entries.{placeOf}
 use Rattle.effect.proofs.entering.post.Statement.{statement}
 use Rattle.effect.proofs.entering.post.Tie as tie
-
-in-force-requires : tie.Need-in-force-requires
-in-force-requires c κs = search needs
 
 mul-titles : tie.Need-mul-titles
 mul-titles c = search needs
@@ -15,30 +13,26 @@ mul-titles c = search needs
 array-set-from-titles : tie.Need-array-set-from-titles
 array-set-from-titles c = search needs
 
-posted-units-requires : tie.Need-posted-units-requires
-posted-units-requires c κs =
-    let start = c .before .before .before .before in
-    units-fit (start .args .b) (start .args .t) (start .pre)
+raised-units-requires : tie.Need-raised-units-requires
+raised-units-requires c κs = c .before .before .before .pre .units
 
-posted-wells-requires : tie.Need-posted-wells-requires
-posted-wells-requires c κs =
-    let start = c .before .before .before .before .before in
-    wells-fit (start .args .b) (start .args .t) (start .pre)
+raised-wells-requires : tie.Need-raised-wells-requires
+raised-wells-requires c κs = c .before .before .before .before .pre .wells
 
 add-t8 : tie.Need-add-t8
 add-t8 c = search needs
 
 returns : tie.Need-returns
 returns c =
-    let start = c .before .before .before .before .before .before in
+    let start = c .before .before .before .before .before in
     let b = start .args .b in
     λ i.
     record {
-      units = c .before .posted-units .ensures i;
+      units = c .before .raised-units .ensures i;
       «unit_count» = b .«unit_count»;
-      aquifers = c .posted-wells .ensures i;
+      aquifers = c .raised-wells .ensures i;
       «aquifer_count» = b .«aquifer_count»;
-      titles = set (b .titles) (b .given) (c .before .before .in-force .ensures i);
+      titles = set (b .titles) (b .given) (placeOf (start .args .t) true);
       given = b .given + 1;
     }
 
@@ -46,10 +40,9 @@ pub post-spec : {M : Type 1} → statement M
 post-spec =
     tie.close
     (tie.spec
-    in-force-requires
     mul-titles
     array-set-from-titles
-    posted-units-requires
-    posted-wells-requires
+    raised-units-requires
+    raised-wells-requires
     add-t8
     returns)

@@ -1,28 +1,25 @@
 -- `effect::lowered_wells` meets its contract. Assumes nothing.
-use Prim.Native.Nat.{ℕ}
+use Prim.Native.Nat.{_-_}
 use mathlib.Core.Path.{sym, ap, subst, _∙_}
-use lib.ListN.{getD, set}
-use native.Mathlib.Omega.{arith}
-use native.Mathlib.Numerals.{sub-one}
 use borrow.Author.Needs.{needs}
-use Rattle.model.specs.Fresh.{emptyAquifer}
 use Rattle.model.specs.declared.Title.{Title}
 use Rattle.model.specs.declared.Title.the-variants.{AquiferWithdrawal, AquiferTransfer}
-use Rattle.effect.specs.Effect.{unpumped}
-use Rattle.effect.specs.Cancelled.{WellsHeld, loweredWells}
+use Rattle.effect.specs.Cancelled.{held, WellsHeld, loweredWells}
+use Rattle.effect.proofs.Taking.{well-leaves}
+use Rattle.effect.proofs.Changing.{less-none, well-changed, wells-unchanged}
 use Rattle.effect.proofs.leaving.lowered_wells.Statement.{statement}
 use Rattle.effect.proofs.leaving.lowered_wells.Tie as tie
 
--- What the aquifers hold of the title, by its kind.
-pumped : (c : tie.After-known-told) → let start = c .before .before .before in
-    WellsHeld (AquiferWithdrawal (c .before .t .given .0 .0) (c .before .t .given .0 .1 .0)) (start .args .aquifers)
-pumped c =
+-- What the title asks of the aquifers, by its kind.
+pumping : (c : tie.After-known-told) → let t = c .before .t .given .0 in
+    WellsHeld (AquiferWithdrawal (t .0) (t .1 .0)) (c .before .before .before .args .aquifers)
+pumping c =
     let start = c .before .before .before in
     subst (λ (t : Title). WellsHeld t (start .args .aquifers)) (c .before .t .given .1) (start .pre)
 
-brought : (c : tie.After-known-told2) → let start = c .before .before .before in
-    WellsHeld (AquiferTransfer (c .before .t2 .given .0 .0) (c .before .t2 .given .0 .1 .0) (c .before .t2 .given .0 .1 .1 .0)) (start .args .aquifers)
-brought c =
+bringing : (c : tie.After-known-told2) → let t = c .before .t2 .given .0 in
+    WellsHeld (AquiferTransfer (t .0) (t .1 .0) (t .1 .1 .0)) (c .before .before .before .args .aquifers)
+bringing c =
     let start = c .before .before .before in
     subst (λ (t : Title). WellsHeld t (start .args .aquifers)) (c .before .t2 .given .1) (start .pre)
 
@@ -32,16 +29,14 @@ enum-told c = search needs
 enum-known-t : tie.Need-enum-known-t
 enum-known-t c = search needs
 
-cast-unpumped-at : tie.Need-cast-unpumped-at
-cast-unpumped-at c = search needs
+cast-lowered-well : tie.Need-cast-lowered-well
+cast-lowered-well c = search needs
 
-sub-unpumped-at : tie.Need-sub-unpumped-at
-sub-unpumped-at c = pumped c .0
+sub-lowered-well : tie.Need-sub-lowered-well
+sub-lowered-well c = pumping c .0
 
-unpumped-at-requires : tie.Need-unpumped-at-requires
-unpumped-at-requires c κs =
-    let f = pumped c in
-    rw (sub-one (c .before .t .given .0 .0)) (omega (arith, f .0, f .1), f .2)
+lowered-well-requires : tie.Need-lowered-well-requires
+lowered-well-requires c κs = well-leaves held (c .before .before .before .args .aquifers) (c .before .t .given .0 .0) _ (pumping c)
 
 enum-told-2 : tie.Need-enum-told-2
 enum-told-2 c = search needs
@@ -49,36 +44,36 @@ enum-told-2 c = search needs
 enum-known-t-2 : tie.Need-enum-known-t-2
 enum-known-t-2 c = search needs
 
-cast-unpumped-at-2 : tie.Need-cast-unpumped-at-2
-cast-unpumped-at-2 c = search needs
+cast-lowered-well-2 : tie.Need-cast-lowered-well-2
+cast-lowered-well-2 c = search needs
 
-sub-unpumped-at-2 : tie.Need-sub-unpumped-at-2
-sub-unpumped-at-2 c = brought c .0
+sub-lowered-well-2 : tie.Need-sub-lowered-well-2
+sub-lowered-well-2 c = bringing c .0
 
-unpumped-at-requires-2 : tie.Need-unpumped-at-requires-2
-unpumped-at-requires-2 c κs =
-    let f = brought c in
-    rw (sub-one (c .before .t2 .given .0 .0)) (omega (arith, f .0, f .1), f .2)
+lowered-well-requires-2 : tie.Need-lowered-well-requires-2
+lowered-well-requires-2 c κs = well-leaves held (c .before .before .before .args .aquifers) (c .before .t2 .given .0 .0) _ (bringing c)
 
 returns : tie.Need-returns
-returns c = search needs
+returns c =
+    let ws = c .before .before .args .aquifers in
+    wells-unchanged _-_ less-none ws ∙ ap (λ (t : Title). loweredWells t ws) (sym (c .enum-told .given .1))
 
 returns-2 : tie.Need-returns-2
 returns-2 c =
-    let start = c .before .before .before .before in
-    c .unpumped-at .ensures
-    ∙ ap (λ (k : ℕ). set (start .args .aquifers) k (unpumped (getD (start .args .aquifers) k emptyAquifer) (c .before .before .t .given .0 .1 .0))) (sub-one (c .before .before .t .given .0 .0))
-    ∙ ap (λ (t : Title). loweredWells t (start .args .aquifers)) (sym (c .before .before .t .given .1))
+    let ws = c .before .before .before .before .args .aquifers in
+    c .lowered-well .ensures ∙ well-changed _-_ less-none ws _ _ (pumping (c .before) .0)
+    ∙ ap (λ (t : Title). loweredWells t ws) (sym (c .before .before .t .given .1))
 
 returns-3 : tie.Need-returns-3
-returns-3 c = search needs
+returns-3 c =
+    let ws = c .before .before .args .aquifers in
+    wells-unchanged _-_ less-none ws ∙ ap (λ (t : Title). loweredWells t ws) (sym (c .enum-told2 .given .1))
 
 returns-4 : tie.Need-returns-4
 returns-4 c =
-    let start = c .before .before .before .before in
-    c .unpumped-at2 .ensures
-    ∙ ap (λ (k : ℕ). set (start .args .aquifers) k (unpumped (getD (start .args .aquifers) k emptyAquifer) (c .before .before .t2 .given .0 .1 .1 .0))) (sub-one (c .before .before .t2 .given .0 .0))
-    ∙ ap (λ (t : Title). loweredWells t (start .args .aquifers)) (sym (c .before .before .t2 .given .1))
+    let ws = c .before .before .before .before .args .aquifers in
+    c .lowered-well2 .ensures ∙ well-changed _-_ less-none ws _ _ (bringing (c .before) .0)
+    ∙ ap (λ (t : Title). loweredWells t ws) (sym (c .before .before .t2 .given .1))
 
 pub lowered-wells-spec : {M : Type 1} → statement M
 lowered-wells-spec =
@@ -86,14 +81,14 @@ lowered-wells-spec =
     (tie.spec
     enum-told
     enum-known-t
-    cast-unpumped-at
-    sub-unpumped-at
-    unpumped-at-requires
+    cast-lowered-well
+    sub-lowered-well
+    lowered-well-requires
     enum-told-2
     enum-known-t-2
-    cast-unpumped-at-2
-    sub-unpumped-at-2
-    unpumped-at-requires-2
+    cast-lowered-well-2
+    sub-lowered-well-2
+    lowered-well-requires-2
     returns
     returns-2
     returns-3

@@ -5,9 +5,9 @@ use mathlib.Core.Bool.{false}
 use lib.ListN.{getD, set}
 use native.Mathlib.Numerals.{sub-one}
 use borrow.Author.Needs.{needs}
+use Rattle.model.specs.Entries.{placeOf}
 use Rattle.model.specs.Fresh.{emptyPlace}
 use Rattle.effect.specs.Cancelled.{Takable, loweredUnits, loweredWells}
-use Rattle.effect.proofs.Lowering.{units-held, wells-held}
 use Rattle.effect.proofs.leaving.take_back.Statement.{statement}
 use Rattle.effect.proofs.leaving.take_back.Tie as tie
 
@@ -34,12 +34,12 @@ array-set-from-titles c = search needs
 lowered-units-requires : tie.Need-lowered-units-requires
 lowered-units-requires c κs =
     let start = c .before .before .before .before in
-    units-held (start .args .b) _ (takable start)
+    takable start .units
 
 lowered-wells-requires : tie.Need-lowered-wells-requires
 lowered-wells-requires c κs =
     let start = c .before .before .before .before .before in
-    wells-held (start .args .b) _ (takable start)
+    takable start .wells
 
 returns : tie.Need-returns
 returns c =
@@ -54,7 +54,7 @@ returns c =
       «unit_count» = b .«unit_count»;
       aquifers = wells i;
       «aquifer_count» = b .«aquifer_count»;
-      titles = set (b .titles) (k i) (record { title = getD (b .titles) (k i) emptyPlace .title; «in_force» = false });
+      titles = set (b .titles) (k i) (placeOf (getD (b .titles) (k i) emptyPlace .title) false);
       given = b .given;
     }
 

@@ -17,7 +17,7 @@ use Rattle.effect.specs.Cancelled.{cancelled, loweredUnits, UnitsHeld}
 use Rattle.register.specs.Cancel.{inForce}
 use Rattle.register.specs.declared.Reply.{Reply}
 use Rattle.register.proofs.Leaving.{reply-not-in-force, reply-needed, reply-cancelled}
-use Rattle.register.proofs.Trial.{no-number, not-given, out-of-force, is-in-force, held-units, lowered-ready, lowered-flowing}
+use Rattle.register.proofs.Trial.{no-number, not-given, out-of-force, is-in-force, takable, lowered-ready, lowered-flowing}
 use Rattle.register.proofs.decision.cancel_answer.Statement.{statement}
 use Rattle.register.proofs.decision.cancel_answer.Tie as tie
 
@@ -73,7 +73,7 @@ needed-requires c κs =
     let q = stands (c .before) in
     subst⁻¹ (λ (k : ℕ). let t = getD (b .titles) k emptyPlace .title in
     UnitsHeld t (b .units) × Ready (unitsView (loweredUnits t (b .units)) (b .«unit_count»))) (sub-one n)
-    (held-units b n (start .pre) q, lowered-ready b n (start .pre) q (c .before .before .before .before .before .sized .ensures))
+    (takable b n (start .pre) q .units, lowered-ready b n (start .pre) q (c .before .before .before .before .before .sized .ensures))
 
 -- What the flows without the title say of the balance.
 flows : (c : tie.After-needed) → let start = c .before .before .before .before .before .before .before in

@@ -5,7 +5,6 @@ use borrow.Author.Needs.{needs}
 use Rattle.model.specs.View.{viewOf}
 use Rattle.river.proofs.Units.{ready-alone}
 use Rattle.basin.proofs.Soundness.{soundness, sound-ready}
-use Rattle.effect.proofs.Posting.{units-fit, wells-fit}
 use Rattle.effect.specs.Granted.{granted}
 use Rattle.refusal.specs.Grant.{noWater}
 use Rattle.refusal.specs.Steps.{earlyNumber}
@@ -41,21 +40,21 @@ returns c =
     let start = c .before .before .before .before .before in
     ap (λ (r : Reply). r .answer) (reply-early (start .args .b) (start .args .t) _ (start .pre) (early-number (c .before)) (c .if1 .taken))
 
-posted-units-requires : tie.Need-posted-units-requires
-posted-units-requires c κs =
+raised-units-requires : tie.Need-raised-units-requires
+raised-units-requires c κs =
     let start = c .before .before .before .before .before in
-    units-fit (start .args .b) (start .args .t) (grantable-of (start .args .b) (start .args .t) (start .pre) (none-early c))
+    grantable-of (start .args .b) (start .args .t) (start .pre) (none-early c) .units
 
-posted-wells-requires : tie.Need-posted-wells-requires
-posted-wells-requires c κs =
+raised-wells-requires : tie.Need-raised-wells-requires
+raised-wells-requires c κs =
     let start = c .before .before .before .before .before .before in
-    wells-fit (start .args .b) (start .args .t) (grantable-of (start .args .b) (start .args .t) (start .pre) (none-early (c .before)))
+    grantable-of (start .args .b) (start .args .t) (start .pre) (none-early (c .before)) .wells
 
 no-water-requires : tie.Need-no-water-requires
 no-water-requires c κs =
     let start = c .before .before .before .before .before .before .before in
     trial (start .args .b) (start .args .t) _ _ (c .before .before .before .before .before .before .sized .ensures) (start .pre)
-    (none-early (c .before .before)) (c .before .posted-units .ensures) (c .posted-wells .ensures)
+    (none-early (c .before .before)) (c .before .raised-units .ensures) (c .raised-wells .ensures)
 
 -- What the water of the title says of the balance.
 water : (c : tie.After-no-water) → let start = c .before .before .before .before .before .before .before .before in
@@ -64,7 +63,7 @@ water c =
     let start = c .before .before .before .before .before .before .before .before in
     c .no-water .ensures
     ∙ trial-water (start .args .b) (start .args .t) _ _ (c .before .before .before .before .before .before .before .sized .ensures) (start .pre)
-    (none-early (c .before .before .before)) (c .before .before .posted-units .ensures) (c .before .posted-wells .ensures)
+    (none-early (c .before .before .before)) (c .before .before .raised-units .ensures) (c .before .raised-wells .ensures)
 
 returns-2 : tie.Need-returns-2
 returns-2 c =
@@ -85,8 +84,8 @@ grant-answer-spec =
     sized-requires
     early-requires
     returns
-    posted-units-requires
-    posted-wells-requires
+    raised-units-requires
+    raised-wells-requires
     no-water-requires
     returns-2
     returns-3)
