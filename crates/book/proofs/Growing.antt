@@ -25,7 +25,7 @@ use Rattle.record.proofs.Faults.{SoilClean, soil-clean, RainClean, rain-clean, 
 use Rattle.record.proofs.Clean.{Fine, WellFine, UnitClean, unit-clean, AquiferClean, aquifer-clean, closing-clean, year-sane, soil-sane}
 use Rattle.record.proofs.Means.{Kind, bare-kind, plot-kind, rain-kind, gauge-kind}
 use Rattle.record.proofs.Summing.{summed-plot, summed-year, begun-sane, keep-records}
-use Rattle.book.proofs.Entries.{Begun, Cleared, cleared}
+use Rattle.book.proofs.Entries.{Begun, cleared}
 
 -- One element more at the end of a list.
 module _ {A : Type 0} (xs : List A) (x d : A) where

@@ -1,6 +1,6 @@
 -- What the code's step tells of the record at an offset is what the definition of reading says of it. Assumes nothing.
 use Prim.Native.Nat.{ℕ, suc, _+_, _-_, _≤_, _<_}
-use mathlib.Core.Path.{_≡_, refl, sym, ap, _∙_}
+use mathlib.Core.Path.{_≡_, refl, sym, _∙_}
 use mathlib.Core.List.{List}
 use lib.ListN.{length}
 use borrow.Author.Tests.{lt-ltb, le-ltb, eq-eqb, ne-eqb}
@@ -11,7 +11,7 @@ use Rattle.record.specs.declared.Mark.{Mark}
 use Rattle.record.specs.declared.Mark.the-variants.{Un, Su, Pr, Af, Ac, Call, Unknown}
 use Rattle.record.specs.Bytes.{bits8, bits16, bits32}
 use Rattle.record.specs.Record.{unitRecord, aquiferRecord, markOf}
-use Rattle.record.specs.Described.{DescribedUnit, unitAt, plotAt, rainAt, gaugedAt, gaugeAt, addPlot, addYear, summed}
+use Rattle.record.specs.Described.{DescribedUnit, unitAt, plotAt, rainAt, gaugeAt, addPlot, addYear, summed}
 use Rattle.record.specs.Entries.{Entry, unitEntry, soilEntry, yearEntry, aquiferEntry, noEntry, failing, stands, wholeEntry, entryMarked, entryAt}
 use Rattle.record.specs.Fault.{closingFault, unitFault, soilFault, rainFault, gaugeFault, aquiferFault, gaugeOutsideAt}
 use Rattle.record.proofs.Faults.{soil-clean, rain-clean, gauge-clean}
@@ -19,7 +19,7 @@ use Rattle.record.proofs.Summing.{summed-unit, summed-soil, summed-rain, summed
 use Rattle.book.specs.declared.Next.{Next}
 use Rattle.book.specs.declared.Next.the-variants.{Ends, Refused, Opens, Grows, Adds}
 use Rattle.book.specs.Reading.{Description, lastUnit, lastSums, withLast, withEntry, Verdict, clear, faulty, unlessFaulty, entryVerdict, refused, readingFrom}
-use Rattle.book.specs.Steps.{unless, wholeRecord, unitStep, soilStep, rainStep, gaugeStep, aquiferStep, marked, next}
+use Rattle.book.specs.Steps.{unless, wholeRecord, marked, next}
 use Rattle.book.proofs.Entries.{reads-failing, reads-faulty}
 
 -- A UN that opens a unit: it stands there and is not refused, and the sums that are told are the unit's.

@@ -18,6 +18,7 @@ use Rattle.model.specs.declared.Call.the-variants.{Grant, Cancel}
 use Rattle.model.specs.declared.Balance.{Balance}
 use Rattle.model.specs.declared.Answer.the-variants.{Accepted, Refused}
 use Rattle.model.specs.Fresh.{emptyUnit, emptyAquifer, emptyPlace}
+use Rattle.model.specs.Entries.{placeOf}
 use Rattle.model.specs.View.{viewOf}
 use Rattle.model.specs.Answers.{firstFrom}
 use Rattle.runoff.specs.Soil.{coefficient, coefficients}
@@ -88,9 +89,6 @@ thirdTitle = AquiferWithdrawal 1 250
 abbrev pub fourthTitle : Title
 fourthTitle = AquiferTransfer 1 3 200
 
-abbrev inForce : Title → Place
-inForce t = record { title = t; «in_force» = true }
-
 -- Before the calls, after call 1 (which calls 2 and 3 leave), and after call 4.
 unfoldable pub printedBalance : Balance
 unfolding bookBalance
@@ -98,11 +96,11 @@ printedBalance = bookBalance 3000 0 0 1300 (replicate 256 emptyPlace) 0
 
 unfoldable pub firstBalance : Balance
 unfolding bookBalance
-firstBalance = bookBalance 5000 0 400 1300 (inForce firstTitle ∷ replicate 255 emptyPlace) 1
+firstBalance = bookBalance 5000 0 400 1300 (placeOf firstTitle true ∷ replicate 255 emptyPlace) 1
 
 unfoldable pub lastBalance : Balance
 unfolding bookBalance
-lastBalance = bookBalance 5000 200 400 1500 (inForce firstTitle ∷ inForce fourthTitle ∷ replicate 254 emptyPlace) 2
+lastBalance = bookBalance 5000 200 400 1500 (placeOf firstTitle true ∷ placeOf fourthTitle true ∷ replicate 254 emptyPlace) 2
 
 -- Opening the printed book gives the first of them, which is sound as every balance that is opened.
 pub printed-opens : opened printedBook ≡ record { answer = Accepted; place = 379; balance = printedBalance }
@@ -173,16 +171,16 @@ eightTitle = UnitWithdrawal 3 1 8
 
 unfoldable sevenBalance : Balance
 unfolding bookBalance
-sevenBalance = bookBalance 3007 0 1 1300 (inForce sevenTitle ∷ replicate 255 emptyPlace) 1
+sevenBalance = bookBalance 3007 0 1 1300 (placeOf sevenTitle true ∷ replicate 255 emptyPlace) 1
 
 unfoldable eightBalance : Balance
 unfolding bookBalance
-eightBalance = bookBalance 3015 0 2 1300 (inForce sevenTitle ∷ inForce eightTitle ∷ replicate 254 emptyPlace) 2
+eightBalance = bookBalance 3015 0 2 1300 (placeOf sevenTitle true ∷ placeOf eightTitle true ∷ replicate 254 emptyPlace) 2
 
 unfoldable pub cancelledBalance : Balance
 unfolding bookBalance
 cancelledBalance =
-    bookBalance 3007 0 1 1300 (inForce sevenTitle ∷ record { title = eightTitle; «in_force» = false } ∷ replicate 254 emptyPlace) 2
+    bookBalance 3007 0 1 1300 (placeOf sevenTitle true ∷ placeOf eightTitle false ∷ replicate 254 emptyPlace) 2
 
 seven-water : noWater (granted (viewOf printedBalance) sevenTitle) sevenTitle ≡ false
 unfolding printedBalance flow gather gatherTo sumOf committed committedTo every outlet outletTo

@@ -23,7 +23,7 @@ use Rattle.register.specs.Calls.{callRefusal, callReply, after}
 use Rattle.register.proofs.Staying.{not-refused}
 use Rattle.register.proofs.Keeping as keeping
 use Rattle.conservation.specs.Demand3.{Tally, start, tallyRefusal, unlessRefused}
-use Rattle.conservation.specs.Replies.{Said, replies, numberFor, saying, sayings, counted, grants, Numbered}
+use Rattle.conservation.specs.Replies.{Said, replies, numberFor, saying, sayings, grantCounts, grants, Numbered}
 use Rattle.conservation.proofs.Following.{Follows, changed, carried, replied-to, same-refusal, follows-start, follows-call}
 
 -- What a reply says.
@@ -63,7 +63,7 @@ refused-keeps = keeping.refused-keeps
 
 -- An accepted grant gives one number more, and no other call does.
 grant-counts : (r : Refusal) (b : Balance) (x : Title) (n : ℕ)
-    → replied r b (posted b x) n .balance .given ≡ b .given + counted (Grant x) (replied r b (posted b x) n .answer)
+    → replied r b (posted b x) n .balance .given ≡ b .given + grantCounts (Grant x) (replied r b (posted b x) n .answer)
 grant-counts none b x n = refl
 grant-counts (number k) b x n = omega arith
 
@@ -71,7 +71,7 @@ cancel-counts : (r : Refusal) (b : Balance) (m n : ℕ) → replied r b (without
 cancel-counts none b m n = omega arith
 cancel-counts (number k) b m n = omega arith
 
-call-counts : (b : Balance) (c : Call) → callReply b c .balance .given ≡ b .given + counted c (callReply b c .answer)
+call-counts : (b : Balance) (c : Call) → callReply b c .balance .given ≡ b .given + grantCounts c (callReply b c .answer)
 call-counts b (Grant x) = grant-counts (afterTest b (grantRefusal (viewOf b) x)) b x (b .given + 1)
 call-counts b (Cancel n) = cancel-counts (afterTest b (cancelRefusal (viewOf b) n)) b n n
 

@@ -36,7 +36,7 @@ use Rattle.effect.specs.Granted.{granted, posted, Sized}
 use Rattle.refusal.specs.Grant.{noWater, grantRefusal}
 use Rattle.register.specs.Reply.{replied}
 use Rattle.effect.specs.Cancelled.{titleOf, cancelled, withoutTitle}
-use Rattle.register.specs.Cancel.{inForce, cancelRefusal}
+use Rattle.register.specs.Cancel.{numberInForce, cancelRefusal}
 use Rattle.register.specs.Calls.{callRefusal, callReply, after}
 use Rattle.refusal.specs.Steps.{earlyNumber}
 use Rattle.refusal.proofs.Granting.{judged, grant-judged}
@@ -45,7 +45,7 @@ use Rattle.register.proofs.Replies.{grantable-of}
 use Rattle.register.proofs.Staying.{granted-sound}
 use Rattle.register.proofs.Cancelling.{InForce, in-force-of, cancelled-view}
 use Rattle.register.proofs.Leaving.{cancelled-sound}
-use Rattle.conservation.specs.Demand3.{Tally, start, baseUnit, baseAquifer, enteredAdds, added, standing, entries, entering, leaving, accepting, tallyRefusal, unlessRefused, tallied}
+use Rattle.conservation.specs.Demand3.{Tally, start, baseUnit, baseAquifer, enteredAdds, added, placeFor, entries, entering, leaving, accepting, tallyRefusal, unlessRefused, tallied}
 
 -- A balance follows a tally: its arrays have their full length, its view is the tally's, and it is sound; and the tally keeps with each
 -- title the return that the title has.
@@ -138,7 +138,7 @@ module _ (d : Description) (t : Tally) (x : Title) where
 
   granted-entries : granted (entries d t) x ≡ entries d (accepting t (Grant x))
   granted-entries = λ i.
-      viewBy d (λ j s base. one-more j s base i) (suc (t .last)) (λ k. put-read standing (t .place) (t .last) (entering x) k i)
+      viewBy d (λ j s base. one-more j s base i) (suc (t .last)) (λ k. put-read placeFor (t .place) (t .last) (entering x) k i)
 
   granted-kept : ((k : ℕ) → t .place k .back ≡ returnOf (t .place k .title))
       → (k : ℕ) → accepting t (Grant x) .place k .back ≡ returnOf (accepting t (Grant x) .place k .title)
@@ -163,7 +163,7 @@ module _ (d : Description) (t : Tally) (n : ℕ) (f : InForce (entries d t) n) (
 
   cancelled-entries : cancelled (entries d t) n ≡ entries d (accepting t (Cancel n))
   cancelled-entries = λ i.
-      viewBy d (λ j s base. one-fewer j s base i) (t .last) (λ k. put-read standing (t .place) (pred n) (leaving (t .place (pred n))) k i)
+      viewBy d (λ j s base. one-fewer j s base i) (t .last) (λ k. put-read placeFor (t .place) (pred n) (leaving (t .place (pred n))) k i)
 
   cancelled-kept : (k : ℕ) → accepting t (Cancel n) .place k .back ≡ returnOf (accepting t (Cancel n) .place k .title)
   cancelled-kept k =
@@ -192,9 +192,9 @@ grant-unrefused v x e =
     let p = unjudged (earlyNumber v x) _ (sym (grant-judged v x) ∙ e) in
     (p .0, unrefused 17 (noWater (granted v x) x) none (p .1) .0)
 
-cancel-unrefused : (v : View) (n : ℕ) → cancelRefusal v n ≡ none → (inForce v n ≡ true) × (flowing (cancelled v n) ≡ true)
+cancel-unrefused : (v : View) (n : ℕ) → cancelRefusal v n ≡ none → (numberInForce v n ≡ true) × (flowing (cancelled v n) ≡ true)
 cancel-unrefused v n e =
-    let p = unrefused 19 (not (inForce v n)) _ e in
+    let p = unrefused 19 (not (numberInForce v n)) _ e in
     (not-false _ (p .0), not-false _ (unrefused 20 (not (flowing (cancelled v n))) none (p .1) .0))
 
 -- What an accepted call makes of a balance, and the number that it carries.

@@ -1,5 +1,5 @@
 -- The shares of a demand lose no water: what the units above get and what the unit gets is the whole demand. Assumes nothing.
-use Prim.Native.Nat.{ℕ, zero, suc, pred, _+_, _-_, _*_, _/_, _≤_, _<_}
+use Prim.Native.Nat.{ℕ, zero, suc, _+_, _*_, _/_, _≤_, _<_}
 use mathlib.Core.Path.{_≡_, refl, sym, ap, _∙_}
 use mathlib.Core.Bool.{Bool, true, false, cond}
 use lib.Dec.{eqb}
@@ -7,12 +7,11 @@ use native.Mathlib.Nat.{le-div-iff-mul-le}
 use native.Mathlib.Omega.{arith}
 use borrow.Author.Tests.{eq-eqb, ne-eqb}
 use Rattle.laws.specs.Sum.{naturals, sumOf, only}
-use Rattle.laws.specs.Gather.{arriving}
 use Rattle.laws.proofs.Cases.{by-lt, by-eq}
 use Rattle.laws.proofs.Splitting.{floor-all, floor-mono, floor-le}
 use Rattle.model.specs.View.{View}
 use Rattle.river.specs.Flow.{downstream}
-use Rattle.river.specs.Reserve.{contribution, inflow, runningTotal, total, share, shareAbove, shareOwn}
+use Rattle.river.specs.Reserve.{contribution, runningTotal, total, share, shareAbove, shareOwn}
 
 -- What the units that drain straight into unit w get of its demand D, of the first n units.
 abbrev pub sharesAbove : View → ℕ → ℕ → ℕ → ℕ

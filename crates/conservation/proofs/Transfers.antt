@@ -12,7 +12,7 @@ use Rattle.model.specs.declared.Title.the-variants.{UnitWithdrawal, AquiferWith
 use Rattle.titles.specs.declared.Slot.the-variants.{Exports, Imports}
 use Rattle.titles.specs.Adds.{adds}
 use Rattle.basin.proofs.Soundness.{Exists, TitleSound, PlaceSound}
-use Rattle.conservation.specs.Demand3.{Entered, enteredAdds, standing, broughtBy, brought}
+use Rattle.conservation.specs.Demand3.{Entered, enteredAdds, placeFor, broughtBy, brought}
 use Rattle.conservation.proofs.Sums.{sum-zero, sum-single, sum-swap, only-is, only-not}
 
 -- A volume at a unit that exists counts once.
@@ -38,7 +38,7 @@ test-balance : (t : Bool) (n b : ℕ) (x y : ℕ → ℕ) → (t ≡ true → su
 test-balance true n b x y e = e refl
 test-balance false n b x y e = omega arith
 
-entered-balance : (units aquifers : ℕ) (e : Entered) → PlaceSound units aquifers (standing e)
+entered-balance : (units aquifers : ℕ) (e : Entered) → PlaceSound units aquifers (placeFor e)
     → sumOf naturals units (λ j. enteredAdds e Imports j)
     ≡ sumOf naturals units (λ j. enteredAdds e Exports j) + only naturals (e .inForce) (broughtBy (e .title))
 entered-balance units aquifers e s =
@@ -46,7 +46,7 @@ entered-balance units aquifers e s =
     (λ q. title-balance units aquifers (e .title) (e .back) (s .in-force q))
 
 -- What the titles import together is what they export together and what they bring from aquifers.
-pub transfers-balance : (units aquifers : ℕ) (place : ℕ → Entered) (n : ℕ) → ((k : ℕ) → k < n → PlaceSound units aquifers (standing (place k)))
+pub transfers-balance : (units aquifers : ℕ) (place : ℕ → Entered) (n : ℕ) → ((k : ℕ) → k < n → PlaceSound units aquifers (placeFor (place k)))
     → sumOf naturals units (λ j. sumOf naturals n (λ k. enteredAdds (place k) Imports j))
     ≡ sumOf naturals units (λ j. sumOf naturals n (λ k. enteredAdds (place k) Exports j)) + brought place n
 transfers-balance units aquifers place n s =

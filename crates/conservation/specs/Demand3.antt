@@ -81,8 +81,8 @@ abbrev pub aquiferEntries : Description → Tally → ℕ → Aquifer
 aquiferEntries d t j = withExtraction (baseAquifer d j) (baseAquifer d j .extraction + added t WellExtraction j)
 
 -- The place of the register that a title of the tally stands for.
-abbrev pub standing : Entered → Place
-standing e = placeOf (e .title) (e .inForce)
+abbrev pub placeFor : Entered → Place
+placeFor e = placeOf (e .title) (e .inForce)
 
 -- The tally's entries, titles and last number: what the refusals and the figures are defined over.
 abbrev pub entries : Description → Tally → View
@@ -93,7 +93,7 @@ entries d t =
       aquifers = length (d .aquifers);
       aquifer = aquiferEntries d t;
       given = t .last;
-      place = λ k. standing (t .place k);
+      place = λ k. placeFor (t .place k);
     }
 
 -- A title that is entered, in force, with its return; and one that is taken out of force, with all else as it was.

@@ -40,15 +40,15 @@ sayings d t (c ∷ cs) =
     saying (tallyRefusal d t c) (numberFor t c) ∷ sayings d (unlessRefused (tallyRefusal d t c) t c) cs
 
 -- How many grants of a list were accepted, by the calls and by what was said of each.
-abbrev pub counted : Call → Answer → ℕ
-counted (Grant x) Accepted = 1
-counted (Grant x) (Refused k) = 0
-counted (Cancel n) a = 0
+abbrev pub grantCounts : Call → Answer → ℕ
+grantCounts (Grant x) Accepted = 1
+grantCounts (Grant x) (Refused k) = 0
+grantCounts (Cancel n) a = 0
 
 unfoldable pub grants : List Call → List Said → ℕ
 grants [] said = 0
 grants (c ∷ cs) [] = 0
-grants (c ∷ cs) (s ∷ said) = counted c (s .answer) + grants cs said
+grants (c ∷ cs) (s ∷ said) = grantCounts c (s .answer) + grants cs said
 
 -- The numbers after a list of calls on a balance of which so many were given: as many more are given as grants of the list were accepted. A
 -- grant that is accepted next tells the number after those, and a cancellation that is accepted next the number that it asks for.

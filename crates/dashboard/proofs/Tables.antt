@@ -17,7 +17,7 @@ use Rattle.book.specs.Reading.{opened}
 use Rattle.record.specs.declared.Ending.{Ending}
 use Rattle.calls.specs.declared.Ran.{Ran}
 use Rattle.dashboard.specs.declared.Table.{Table}
-use Rattle.dashboard.specs.Table.{tableOf, tableBy, tableAfter, openedTable, bookTable, balanceBy, balanceAfter, counted, figured}
+use Rattle.dashboard.specs.Table.{tableOf, tableBy, tableAfter, openedTable, bookTable, balanceBy, balanceAfter, figuresGiven, figured}
 
 -- A table with the figures that a balance has.
 pub table-is : (accepted : Bool) (number place : ℕ) (b : Balance) (f : Figures) → f ≡ figuresReply (viewOf b)
@@ -60,10 +60,10 @@ balance-is s o a b h e q =
     ∙ ap (λ (x : Answer). balanceBy s x (o .place) (o .balance)) (sym e)
     ∙ ap (λ (y : Opened). balanceBy s (y .answer) (y .place) (y .balance)) h
 
-pub figured-is : (b : Balance) (f : Figures) (a : Answer) → f ≡ figuresReply (viewOf b) → f .answer ≡ a → counted a ≡ figured b
-figured-is b f a h e = ap counted (sym e) ∙ ap (λ (g : Figures). counted (g .answer)) h
+pub figured-is : (b : Balance) (f : Figures) (a : Answer) → f ≡ figuresReply (viewOf b) → f .answer ≡ a → figuresGiven a ≡ figured b
+figured-is b f a h e = ap figuresGiven (sym e) ∙ ap (λ (g : Figures). figuresGiven (g .answer)) h
 
-counted-within : (a : Answer) → counted a ≤ 1
+counted-within : (a : Answer) → figuresGiven a ≤ 1
 counted-within Accepted = omega arith
 counted-within (Refused n) = omega arith
 

@@ -52,9 +52,9 @@ abbrev pub balanceAfter : List ℕ → Balance
 balanceAfter s = balanceBy s (opened s .answer) (opened s .place) (opened s .balance)
 
 -- 1 if the figures of a balance are given, 0 if they are refused.
-abbrev pub counted : Answer → ℕ
-counted Accepted = 1
-counted (Refused n) = 0
+abbrev pub figuresGiven : Answer → ℕ
+figuresGiven Accepted = 1
+figuresGiven (Refused n) = 0
 
 abbrev pub figured : Balance → ℕ
-figured b = counted (figuresReply (viewOf b) .answer)
+figured b = figuresGiven (figuresReply (viewOf b) .answer)

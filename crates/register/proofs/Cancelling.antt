@@ -22,14 +22,14 @@ use Rattle.effect.specs.Granted.{Sized}
 use Rattle.effect.specs.Cancelled.{titleOf, cancelled, withoutTitle, held, Takable}
 use Rattle.effect.proofs.Taking.{takes-of, units-more, wells-more}
 use Rattle.effect.proofs.Changing.{without-view}
-use Rattle.register.specs.Cancel.{inForce}
+use Rattle.register.specs.Cancel.{numberInForce}
 
 -- A number in force was given, and its place is in force.
 pub record InForce (v : View) (n : ℕ) : Type 0 where
   pub given : Exists (v .given) n
   pub stands : v .place (pred n) .«in_force» ≡ true
 
-pub in-force-of : (v : View) (n : ℕ) → inForce v n ≡ true → InForce v n
+pub in-force-of : (v : View) (n : ℕ) → numberInForce v n ≡ true → InForce v n
 in-force-of v n e = let p = both (exists (v .given) n) _ e in record { given = number-exists (v .given) n (p .0); stands = p .1 }
 
 -- What a sound title names is there.

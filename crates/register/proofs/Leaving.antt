@@ -22,7 +22,7 @@ use Rattle.register.specs.Reply.{afterTest, replied}
 use Rattle.effect.specs.Granted.{Sized}
 use Rattle.effect.specs.Effect.{changedUnit, changedAquifer}
 use Rattle.effect.specs.Cancelled.{titleOf, cancelled, withoutTitle}
-use Rattle.register.specs.Cancel.{inForce, cancelRefusal, cancelReply}
+use Rattle.register.specs.Cancel.{numberInForce, cancelRefusal, cancelReply}
 use Rattle.register.specs.declared.Reply.{Reply}
 use Rattle.register.proofs.Cancelling.{in-force-of, one-less, cancelled-view}
 use Rattle.register.proofs.Staying.{not-refused}
@@ -68,7 +68,7 @@ place-left v n s k h =
     (λ e. rw (ne-eqb k (pred n) e) (s .place k h))
 
 -- A sound view stays sound without a title, where no flow is negative without it.
-pub cancelled-sound : (v : View) (n : ℕ) → sound v ≡ true → inForce v n ≡ true → flowing (cancelled v n) ≡ true → sound (cancelled v n) ≡ true
+pub cancelled-sound : (v : View) (n : ℕ) → sound v ≡ true → numberInForce v n ≡ true → flowing (cancelled v n) ≡ true → sound (cancelled v n) ≡ true
 cancelled-sound v n e q d =
     let s = soundness v e in
     let f = in-force-of v n q in
@@ -97,39 +97,39 @@ module _ (b : Balance) (n : ℕ) where
   by-refusal : (r : Refusal) → afterTest b (cancelRefusal (viewOf b) n) ≡ r → replied r b (withoutTitle b n) n ≡ cancelReply b n
   by-refusal r e = ap (λ (x : Refusal). replied x b (withoutTitle b n) n) (sym e)
 
-  outcome : (s f : Bool) → sound (viewOf b) ≡ s → inForce (viewOf b) n ≡ f
+  outcome : (s f : Bool) → sound (viewOf b) ≡ s → numberInForce (viewOf b) n ≡ f
       → afterTest b (cancelRefusal (viewOf b) n)
       ≡ refuse 0 (not s) (refuse 19 (not f) (refuse 20 (not (flowing (cancelled (viewOf b) n))) none))
   outcome s f e q = λ i. refuse 0 (not (e i)) (refuse 19 (not (q i)) (refuse 20 (not (flowing (cancelled (viewOf b) n))) none))
 
   -- 0.
   pub reply-fault : sound (viewOf b) ≡ false → replied (number 0) b b 0 ≡ cancelReply b n
-  reply-fault e = by-refusal (number 0) (outcome false (inForce (viewOf b) n) e refl)
+  reply-fault e = by-refusal (number 0) (outcome false (numberInForce (viewOf b) n) e refl)
 
   -- 19.
-  pub reply-not-in-force : sound (viewOf b) ≡ true → inForce (viewOf b) n ≡ false → replied (number 19) b b 0 ≡ cancelReply b n
+  pub reply-not-in-force : sound (viewOf b) ≡ true → numberInForce (viewOf b) n ≡ false → replied (number 19) b b 0 ≡ cancelReply b n
   reply-not-in-force e q = by-refusal (number 19) (outcome true false e q)
 
   -- 20.
-  pub reply-needed : sound (viewOf b) ≡ true → inForce (viewOf b) n ≡ true → flowing (cancelled (viewOf b) n) ≡ false
+  pub reply-needed : sound (viewOf b) ≡ true → numberInForce (viewOf b) n ≡ true → flowing (cancelled (viewOf b) n) ≡ false
       → replied (number 20) b b 0 ≡ cancelReply b n
   reply-needed e q d = by-refusal (number 20) (outcome true true e q ∙ ap (λ (x : Bool). refuse 20 (not x) none) d)
 
   -- Accepted.
-  pub reply-cancelled : sound (viewOf b) ≡ true → inForce (viewOf b) n ≡ true → flowing (cancelled (viewOf b) n) ≡ true
+  pub reply-cancelled : sound (viewOf b) ≡ true → numberInForce (viewOf b) n ≡ true → flowing (cancelled (viewOf b) n) ≡ true
       → replied none b (withoutTitle b n) n ≡ cancelReply b n
   reply-cancelled e q d = by-refusal none (outcome true true e q ∙ ap (λ (x : Bool). refuse 20 (not x) none) d)
 
 -- What holds where a cancellation is accepted.
 pub record Released (b : Balance) (n : ℕ) : Type 0 where
   pub sound-before : sound (viewOf b) ≡ true
-  pub stands : inForce (viewOf b) n ≡ true
+  pub stands : numberInForce (viewOf b) n ≡ true
   pub flows : flowing (cancelled (viewOf b) n) ≡ true
 
 pub cancel-released : (b : Balance) (n : ℕ) → cancelReply b n .answer ≡ Accepted → Released b n
 cancel-released b n a =
     by-bool (sound (viewOf b))
-    (λ e. by-bool (inForce (viewOf b) n)
+    (λ e. by-bool (numberInForce (viewOf b) n)
     (λ q. by-bool (flowing (cancelled (viewOf b) n))
     (λ d. record { sound-before = e; stands = q; flows = d })
     (λ d. absurd (not-refused 20 (cancelReply b n) (ap (λ (r : Reply). r .answer) (sym (reply-needed b n e q d))) a)))

@@ -26,7 +26,7 @@ use Rattle.refusal.specs.Grant.{noWater}
 use Rattle.refusal.specs.Steps.{earlyNumber, entriesView}
 use Rattle.refusal.proofs.Granting.{granting-of, granting-named, granted-ready, granted-wells-ready}
 use Rattle.refusal.proofs.Giving.{water-untitled}
-use Rattle.register.specs.Cancel.{inForce}
+use Rattle.register.specs.Cancel.{numberInForce}
 use Rattle.register.proofs.Replies.{grantable-of}
 use Rattle.register.proofs.Cancelling.{in-force-of, takable-in-force, cancelled-view}
 use Rattle.register.proofs.Leaving.{cancelled-ready}
@@ -64,23 +64,23 @@ module _ (b : Balance) (t : Title) (us : List Unit) (ws : List Aquifer) (z : Siz
 
 -- A number is in force, or it is not.
 module _ (v : View) (n : ℕ) where
-  pub no-number : n ≤ 0 → inForce v n ≡ false
+  pub no-number : n ≤ 0 → numberInForce v n ≡ false
   no-number h = f-and _ _ (f-and _ _ (f-lt 0 n h))
 
-  pub not-given : v .given < n → inForce v n ≡ false
+  pub not-given : v .given < n → numberInForce v n ≡ false
   not-given h = f-and _ _ (f-and-on _ _ (t-lt 0 n (omega arith)) (f-le n (v .given) h))
 
-  pub out-of-force : 0 < n → n ≤ v .given → v .place (pred n) .«in_force» ≡ false → inForce v n ≡ false
+  pub out-of-force : 0 < n → n ≤ v .given → v .place (pred n) .«in_force» ≡ false → numberInForce v n ≡ false
   out-of-force h g e = f-and-on _ _ (t-and _ _ (t-lt 0 n h) (t-le n (v .given) g)) e
 
-  pub is-in-force : 0 < n → n ≤ v .given → v .place (pred n) .«in_force» ≡ true → inForce v n ≡ true
+  pub is-in-force : 0 < n → n ≤ v .given → v .place (pred n) .«in_force» ≡ true → numberInForce v n ≡ true
   is-in-force h g e = t-and _ _ (t-and _ _ (t-lt 0 n h) (t-le n (v .given) g)) e
 
 -- No flow is negative, over the units of a view alone.
 flowing-alone : (v : View) → flowing (alone v) ≡ flowing v
 flowing-alone v = λ i. every (v .units) (λ j. nonNeg (flow-alone v j i))
 
-module _ (b : Balance) (n : ℕ) (e : sound (viewOf b) ≡ true) (q : inForce (viewOf b) n ≡ true) where
+module _ (b : Balance) (n : ℕ) (e : sound (viewOf b) ≡ true) (q : numberInForce (viewOf b) n ≡ true) where
   -- A title in force can be taken back.
   pub takable : Takable b (titleOf (viewOf b) n)
   takable = takable-in-force b n (soundness (viewOf b) e) (in-force-of (viewOf b) n q)

@@ -14,7 +14,7 @@ use Rattle.river.specs.Units.{unitsView}
 use Rattle.basin.specs.Sound.{flowing}
 use Rattle.basin.proofs.Soundness.{soundness}
 use Rattle.effect.specs.Cancelled.{cancelled, loweredUnits, UnitsHeld}
-use Rattle.register.specs.Cancel.{inForce}
+use Rattle.register.specs.Cancel.{numberInForce}
 use Rattle.register.specs.declared.Reply.{Reply}
 use Rattle.register.proofs.Leaving.{reply-not-in-force, reply-needed, reply-cancelled}
 use Rattle.register.proofs.Trial.{no-number, not-given, out-of-force, is-in-force, takable, lowered-ready, lowered-flowing}
@@ -57,7 +57,7 @@ returns-3 c =
     (sym (ap (λ (k : ℕ). getD (b .titles) k emptyPlace .«in_force») (sub-one n)) ∙ not-true (getD (b .titles) (n - 1) emptyPlace .«in_force») (c .if3 .taken))))
 
 -- The number is in force.
-stands : (c : tie.Else3) → let start = c .before .before .before .before .before in inForce (viewOf (start .args .t1)) (start .args .number) ≡ true
+stands : (c : tie.Else3) → let start = c .before .before .before .before .before in numberInForce (viewOf (start .args .t1)) (start .args .number) ≡ true
 stands c =
     let start = c .before .before .before .before .before in
     let b = start .args .t1 in
