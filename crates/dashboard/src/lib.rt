@@ -76,7 +76,7 @@ pub extern "C" fn hasheqro_figures(book: &[u8]) -> Table
     let place = o.place;
     let balance = o.balance;
     match answer {
-        Answer::Accepted => table_after(calls::run(book, place, balance)),
+        Answer::Accepted => table_after(calls::tested::run_tested(book, place, balance, true)),
         Answer::Refused(number) => table_of(false, number, place, balance),
     }
 }
@@ -100,7 +100,7 @@ fn balance_after(book: &[u8]) -> Balance
     let balance = o.balance;
     match answer {
         Answer::Accepted => {
-            let ran = calls::run(book, place, balance);
+            let ran = calls::tested::run_tested(book, place, balance, true);
             ran.balance
         }
         Answer::Refused(_) => balance,

@@ -7,8 +7,8 @@ use Rattle.model.specs.View.{viewOf}
 use Rattle.basin.specs.Sound.{sound}
 use Rattle.calls.specs.Running.{ran}
 use Rattle.calls.proofs.Running.{rest, turn-ends, turn-fails, turn-asks, turn-refused, turn-none}
-use Rattle.calls.proofs.run_tested.Statement.{statement}
-use Rattle.calls.proofs.run_tested.Tie as tie
+use Rattle.calls.proofs.tested.run_tested.Statement.{statement}
+use Rattle.calls.proofs.tested.run_tested.Tie as tie
 
 abbrev Inv-loop : tie.InvT-loop
 Inv-loop s from sound₀ b₀ at₀ left₀ b at left = (rest left s at b ≡ ran s at₀ b₀) × (sound₀ ≡ sound (viewOf b))
