@@ -4,12 +4,11 @@ use mathlib.Core.Path.{_≡_, refl, sym, ap, subst, _∙_}
 use mathlib.Core.Bool.{true, false}
 use mathlib.Core.List.{List, [], _∷_}
 use lib.ListN.{replicate}
-use lib.IntN.{pos, negsuc}
+use lib.IntN.{negsuc}
 use native.Mathlib.Omega.{arith}
 use Rattle.laws.specs.Sum.{sumOf, every}
 use Rattle.laws.specs.Gather.{gather, gatherTo}
 use Rattle.laws.specs.Table.{table, tabulate, indexed}
-use Rattle.model.specs.declared.Unit.{Unit}
 use Rattle.model.specs.declared.Place.{Place}
 use Rattle.model.specs.declared.Title.{Title}
 use Rattle.model.specs.declared.Title.the-variants.{UnitWithdrawal, AquiferWithdrawal, UnitTransfer, AquiferTransfer}
@@ -44,30 +43,15 @@ use Rattle.register.specs.Cancel.{cancelReply}
 use Rattle.register.specs.Calls.{callReply, after}
 use Rattle.register.proofs.Replies.{reply-early, reply-given, reply-dry}
 use Rattle.register.proofs.Leaving.{reply-cancelled}
+use Rattle.cases.specs.OneUnit.{unitWith}
 use Rattle.cases.specs.Printed.{printedDescription, printedCalls, printedBook}
-
--- A unit with these entries, and 0 in all others.
-unit : ℕ → ℕ → ℕ → ℕ → ℕ → ℕ → Unit
-unit downstream extraction imports returns commitment runoff =
-    record {
-      downstream = downstream;
-      extraction = extraction;
-      exports = 0;
-      imports = imports;
-      returns = returns;
-      evaporation = 0;
-      storage = pos 0;
-      commitment = commitment;
-      runoff = runoff;
-    }
 
 -- The printed book's balance with the entries that its calls change: unit 3's extraction, imports and returns, the aquifer's extraction,
 -- and the titles.
 bookBalance : ℕ → ℕ → ℕ → ℕ → List Place → ℕ → Balance
-unfolding unit
 bookBalance extraction imports returns pumping titles given =
     record {
-      units = unit 3 0 0 0 0 10080 ∷ unit 3 0 0 0 0 1540 ∷ unit 0 extraction imports returns 1000 1540 ∷ replicate 61 emptyUnit;
+      units = unitWith 3 0 0 0 0 10080 ∷ unitWith 3 0 0 0 0 1540 ∷ unitWith 0 extraction imports returns 1000 1540 ∷ replicate 61 emptyUnit;
       «unit_count» = 3;
       aquifers =
           record { storage = negsuc 199; natural = 900; pumped = 1300; committed = 500; extraction = pumping } ∷ replicate 31 emptyAquifer;

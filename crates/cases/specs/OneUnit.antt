@@ -7,6 +7,7 @@ use lib.IntN.{ℤ, pos, negsuc}
 use Rattle.laws.specs.Sum.{sumOf}
 use Rattle.laws.specs.Gather.{gather, gatherTo}
 use Rattle.laws.specs.Table.{table, tabulate}
+use Rattle.model.specs.declared.Unit.{Unit}
 use Rattle.model.specs.declared.Answer.the-variants.{Accepted}
 use Rattle.model.specs.Fresh.{emptyUnit, emptyAquifer, emptyPlace}
 use Rattle.model.specs.Answers.{firstFrom}
@@ -85,6 +86,21 @@ rainBook plots rains = unitBytes 0 0 0 ++ plotsBytes plots ++ rainsBytes rains
 abbrev pub gaugedBook : List Gauged → List ℕ
 gaugedBook years = unitBytes 0 0 0 ++ gaugesBytes years
 
+-- A unit with these entries, and 0 in all others.
+abbrev pub unitWith : ℕ → ℕ → ℕ → ℕ → ℕ → ℕ → Unit
+unitWith downstream extraction imports returns commitment runoff =
+    record {
+      downstream = downstream;
+      extraction = extraction;
+      exports = 0;
+      imports = imports;
+      returns = returns;
+      evaporation = 0;
+      storage = pos 0;
+      commitment = commitment;
+      runoff = runoff;
+    }
+
 -- Such a book is accepted, ends after so many bytes, and opens a balance of one unit with this natural runoff and 0 in all other places.
 abbrev pub opensOne : ℕ → ℕ → Opened
 opensOne size runoff =
@@ -93,19 +109,7 @@ opensOne size runoff =
       place = size;
       balance =
           record {
-            units =
-                record {
-                  downstream = 0;
-                  extraction = 0;
-                  exports = 0;
-                  imports = 0;
-                  returns = 0;
-                  evaporation = 0;
-                  storage = pos 0;
-                  commitment = 0;
-                  runoff = runoff;
-                }
-                ∷ replicate 63 emptyUnit;
+            units = unitWith 0 0 0 0 0 runoff ∷ replicate 63 emptyUnit;
             «unit_count» = 1;
             aquifers = replicate 32 emptyAquifer;
             «aquifer_count» = 0;

@@ -8,7 +8,7 @@ use native.Mathlib.Omega.{arith}
 use Rattle.laws.specs.Signed.{above, below}
 use Rattle.runoff.specs.Record.{Plot, Year, areaOf, weightedOf, yearGives, yearsSum, sumOn}
 use Rattle.runoff.proofs.Record.{areaOf-more, weightedOf-more, yearsSum-more}
-use Rattle.record.specs.Record.{unitRecord, withSoil, withYear, rainOf, gaugeOf, noSums}
+use Rattle.record.specs.Record.{unitRecord, withSums, withSoil, withYear, rainOf, gaugeOf, noSums}
 use Rattle.record.specs.Described.{DescribedUnit, unitAt, plotAt, rainAt, gaugeAt, withRecords, addPlot, addYear, noUnit, summed}
 use Rattle.record.specs.Bytes.{bits8, bits16, bits32}
 use Rattle.record.specs.Fault.{Sane}
@@ -34,42 +34,14 @@ summed-unit s i = refl
 pub summed-plot : (u : DescribedUnit) (p : Plot) → length (u .years) ≡ 0
     → summed (addPlot u p) ≡ withSoil (summed u) (p .cover) (p .soil) (p .hectares)
 summed-plot u p e = λ i.
-    record {
-      at = u .at;
-      downstream = u .downstream;
-      extraction = u .extraction;
-      exports = u .exports;
-      imports = u .imports;
-      returns = u .returns;
-      evaporation = u .evaporation;
-      storage = u .storage;
-      commitment = u .commitment;
-      soils = one-more (u .plots) p i;
-      hectares = areaOf-more (u .plots) p i;
-      weighted = weightedOf-more (u .plots) p i;
-      years = length (u .years);
-      sum = no-years (areaOf (u .plots ++ (p ∷ []))) (weightedOf (u .plots ++ (p ∷ []))) (areaOf (u .plots)) (weightedOf (u .plots)) (u .years) e i;
-    }
+    withSums (summed u) (one-more (u .plots) p i) (areaOf-more (u .plots) p i) (weightedOf-more (u .plots) p i) (length (u .years))
+    (no-years (areaOf (u .plots ++ (p ∷ []))) (weightedOf (u .plots ++ (p ∷ []))) (areaOf (u .plots)) (weightedOf (u .plots)) (u .years) e i)
 
 pub summed-year : (u : DescribedUnit) (y : Year)
     → summed (addYear u y) ≡ withYear (summed u) (yearGives (areaOf (u .plots)) (weightedOf (u .plots)) y)
 summed-year u y = λ i.
-    record {
-      at = u .at;
-      downstream = u .downstream;
-      extraction = u .extraction;
-      exports = u .exports;
-      imports = u .imports;
-      returns = u .returns;
-      evaporation = u .evaporation;
-      storage = u .storage;
-      commitment = u .commitment;
-      soils = length (u .plots);
-      hectares = areaOf (u .plots);
-      weighted = weightedOf (u .plots);
-      years = one-more (u .years) y i;
-      sum = yearsSum-more (areaOf (u .plots)) (weightedOf (u .plots)) (u .years) y i;
-    }
+    withSums (summed u) (length (u .plots)) (areaOf (u .plots)) (weightedOf (u .plots)) (one-more (u .years) y i)
+    (yearsSum-more (areaOf (u .plots)) (weightedOf (u .plots)) (u .years) y i)
 
 -- A unit that begins has the sums of no records.
 pub begun-sane : (u : DescribedUnit) → u .plots ≡ [] → u .years ≡ [] → Sane (summed u)
