@@ -68,6 +68,10 @@ fn rain(s: &mut Source) -> Record {
     Record::Rain(s.between(350, 2150) as u16)
 }
 
+fn tenths(s: &mut Source) -> Record {
+    Record::Tenths(s.between(3500, 21_500) as u16)
+}
+
 fn gauge(s: &mut Source) -> Record {
     Record::Gauge(GaugeRecord {
         outflow: s.between(500_000, 900_000) as u32,
@@ -81,10 +85,11 @@ fn gauge(s: &mut Source) -> Record {
     })
 }
 
-fn rain_unit(s: &mut Source) -> Vec<Record> {
+/// A unit of 16 areas and 50 rain years by `year`.
+fn rain_unit(s: &mut Source, year: fn(&mut Source) -> Record) -> Vec<Record> {
     let mut records = vec![outlet(s)];
     records.extend((0..MOST_AREAS).map(|_| area(s)));
-    records.extend((0..MOST_YEARS).map(|_| rain(s)));
+    records.extend((0..MOST_YEARS).map(|_| year(s)));
     records
 }
 
@@ -105,11 +110,11 @@ fn aquifers(count: usize) -> Vec<Record> {
     vec![Record::Aquifer(aquifer); count]
 }
 
-/// A book with so many rain units of 16 areas and 50 years, gauged units with as many years as the
-/// longest book lets them have, and 32 aquifers.
-fn largest(rain_units: usize) -> Vec<u8> {
+/// A book with so many rain units of 16 areas and 50 years by `year`, gauged units with as many years
+/// as the longest book lets them have, and 32 aquifers.
+fn largest(rain_units: usize, year: fn(&mut Source) -> Record) -> Vec<u8> {
     let s = &mut Source::new(1);
-    let mut records: Vec<Record> = (0..rain_units).flat_map(|_| rain_unit(s)).collect();
+    let mut records: Vec<Record> = (0..rain_units).flat_map(|_| rain_unit(s, year)).collect();
     let end = aquifers(AQUIFERS);
     for done in rain_units..UNITS {
         let left = LONGEST_BOOK - bytes_of(&records) - bytes_of(&end);
@@ -122,17 +127,22 @@ fn largest(rain_units: usize) -> Vec<u8> {
 
 /// 64 units with 16 areas and 50 rain years each, and 32 aquifers.
 pub fn largest_rain() -> Vec<u8> {
-    largest(UNITS)
+    largest(UNITS, rain)
+}
+
+/// The same with the rain in tenths of a millimetre.
+pub fn largest_tenths() -> Vec<u8> {
+    largest(UNITS, tenths)
 }
 
 /// 64 units with 28 or 29 gauged years each, and 32 aquifers.
 pub fn largest_gauged() -> Vec<u8> {
-    largest(0)
+    largest(0, rain)
 }
 
 /// 32 units of each kind, and 32 aquifers.
 pub fn largest_mixed() -> Vec<u8> {
-    largest(UNITS / 2)
+    largest(UNITS / 2, rain)
 }
 
 // Books to ask

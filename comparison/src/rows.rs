@@ -221,6 +221,10 @@ pub fn openings() -> Vec<Planned> {
             let meaning = "64 units of 16 soils and 50 rain years, 32 aquifers";
             Row::open(name, meaning, books::largest_rain())
         }),
+        planned("open-tenths", |name| {
+            let meaning = "64 units of 16 soils and 50 rain years in tenths, 32 aquifers";
+            Row::open(name, meaning, books::largest_tenths())
+        }),
         planned("open-gauged", |name| {
             let meaning = "64 units of 28 or 29 gauged years, 32 aquifers";
             Row::open(name, meaning, books::largest_gauged())

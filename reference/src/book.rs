@@ -20,6 +20,10 @@ pub const LARGEST_GAUGED: u32 = 2_000_000_000;
 pub const LEAST_RAIN: u16 = 350;
 /// The most rain of a year in millimetres.
 pub const MOST_RAIN: u16 = 2150;
+/// The least rain of a year in tenths of a millimetre.
+pub const LEAST_TENTHS: u16 = 3500;
+/// The most rain of a year in tenths of a millimetre.
+pub const MOST_TENTHS: u16 = 21_500;
 
 /// A refusal and its place: the byte offset of a record, or the number of a unit.
 #[derive(Clone, Copy, Debug, PartialEq, Eq)]
@@ -40,7 +44,8 @@ struct OpenUnit {
     place: usize,
     record: UnitRecord,
     areas: Vec<SoilRecord>,
-    rain: Vec<u16>,
+    /// The rain years in tenths of a millimetre, of either mark.
+    rain: Vec<u32>,
     gauged: Vec<GaugeRecord>,
 }
 
@@ -132,10 +137,10 @@ impl Reading {
         }
         match (record, &self.open) {
             (Record::Soil(_), Some(open)) => open.years() > 0,
-            (Record::Rain(_), Some(open)) => open.areas.is_empty(),
+            (Record::Rain(_) | Record::Tenths(_), Some(open)) => open.areas.is_empty(),
             (Record::Gauge(_), Some(open)) => !open.areas.is_empty(),
-            (Record::Soil(_) | Record::Rain(_) | Record::Gauge(_), None) => true,
-            _ => false,
+            (Record::Unit(_) | Record::Aquifer(_) | Record::Call(_), _) => false,
+            (_, None) => true,
         }
     }
 
@@ -145,7 +150,9 @@ impl Reading {
             (Record::Unit(_), _) => self.units.len() >= basin::MOST_UNITS,
             (Record::Aquifer(_), _) => self.aquifers.len() >= basin::MOST_AQUIFERS,
             (Record::Soil(_), Some(open)) => open.areas.len() >= MOST_AREAS,
-            (Record::Rain(_) | Record::Gauge(_), Some(open)) => open.years() >= MOST_YEARS,
+            (Record::Rain(_) | Record::Tenths(_) | Record::Gauge(_), Some(open)) => {
+                open.years() >= MOST_YEARS
+            }
             _ => false,
         }
     }
@@ -177,7 +184,7 @@ impl Reading {
             (Record::Unit(record), _) => self.open = Some(OpenUnit::new(record, place)),
             (Record::Aquifer(record), _) => self.aquifers.push(aquifer_of(&record)),
             (Record::Soil(area), Some(open)) => open.areas.push(area),
-            (Record::Rain(rain), Some(open)) => open.rain.push(rain),
+            (Record::Rain(_) | Record::Tenths(_), Some(open)) => open.rain.extend(record.tenths()),
             (Record::Gauge(year), Some(open)) => open.gauged.push(year),
             _ => unreachable!("the sequence has been tested, and calls end the description"),
         }
@@ -288,6 +295,7 @@ fn fields_within_values(record: &Record) -> bool {
                 && (1..=MOST_HECTARES).contains(&area.hectares)
         }
         Record::Rain(rain) => (LEAST_RAIN..=MOST_RAIN).contains(rain),
+        Record::Tenths(rain) => (LEAST_TENTHS..=MOST_TENTHS).contains(rain),
         Record::Gauge(year) => gauge_within_values(year),
         Record::Aquifer(aquifer) => {
             basin::is_storage_change(i64::from(aquifer.storage))

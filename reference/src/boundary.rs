@@ -1,6 +1,6 @@
 //! Named books at the limits of the paper and at the places where each refusal can arise.
 
-use crate::record::{self, Mark};
+use crate::record::{self, Mark, Record};
 use crate::{random, text, LONGEST_BOOK};
 
 /// A named book.
@@ -13,6 +13,10 @@ pub struct Named {
 const FOREST: &str = "unit; soil cover=8 soil=1 hectares=10000; rain 800 x20";
 /// Areas and years that follow a unit line and give 1540.
 const RAIN: &str = "soil cover=8 soil=1 hectares=10000; rain 800 x20";
+/// A unit of forest whose natural runoff is 1541, and 1540 by its rain in whole millimetres.
+const FOREST_IN_TENTHS: &str = "unit; soil cover=8 soil=1 hectares=10000; tenths 8002 x20";
+/// A unit line with an area whose rain years follow.
+const MEADOW: &str = "unit; soil cover=14 soil=2 hectares=10000";
 /// An aquifer with a recharge of 90.
 const AQUIFER: &str = "aquifer storage=-10 natural=60 pumped=40 extraction=20";
 
@@ -31,6 +35,12 @@ pub fn books() -> Vec<Named> {
     runoff_cases(&mut list);
     year_counts(&mut list);
     rain_values(&mut list);
+    tenths_values(&mut list);
+    tenths_year_counts(&mut list);
+    tenths_sequence(&mut list);
+    tenths_short(&mut list);
+    tenths_runoff(&mut list);
+    tenths_flows(&mut list);
     areas(&mut list);
     counts(&mut list);
     unit_fields(&mut list);
@@ -73,6 +83,10 @@ fn whole_books(list: &mut List) {
         ("listing", include_str!("../../examples/listing.txt")),
         ("rio-bravo", include_str!("../../examples/rio-bravo.txt")),
         ("cuenca", include_str!("../../examples/cuenca.txt")),
+        (
+            "tequisistlan",
+            include_str!("../../examples/tequisistlan.txt"),
+        ),
     ] {
         list.add(name, text::make(text).expect("the example is well formed"));
     }
@@ -133,7 +147,7 @@ fn year_counts(list: &mut List) {
 }
 
 fn rain_values(list: &mut List) {
-    for rain in [0, 349, 350, 2150, 2151] {
+    for rain in [0, 349, 350, 2150, 2151, 3500, 21500] {
         let all = format!("unit; soil cover=14 soil=2 hectares=10000; rain {rain} x20");
         list.text(&format!("rain-{rain}"), &all);
     }
@@ -141,6 +155,266 @@ fn rain_values(list: &mut List) {
         let last = format!("unit; soil cover=14 soil=2 hectares=10000; rain 800 x19; rain {rain}");
         list.text(&format!("rain-{rain}-last"), &last);
     }
+}
+
+fn tenths_values(list: &mut List) {
+    for tenths in [0, 349, 350, 3499, 3500, 21500, 21501, 65535] {
+        list.text(
+            &format!("tenths-{tenths}"),
+            &format!("{MEADOW}; tenths {tenths} x20"),
+        );
+    }
+    for tenths in [350, 3499, 21501] {
+        list.text(
+            &format!("tenths-{tenths}-last"),
+            &format!("{MEADOW}; tenths 8000 x19; tenths {tenths}"),
+        );
+        list.text(
+            &format!("tenths-{tenths}-after-rain"),
+            &format!("{MEADOW}; rain 800 x19; tenths {tenths}"),
+        );
+    }
+    for rain in [349, 2151, 3500, 21500] {
+        list.text(
+            &format!("rain-{rain}-after-tenths"),
+            &format!("{MEADOW}; tenths 8000 x19; rain {rain}"),
+        );
+    }
+    for (rain, tenths) in [(350, 21500), (2150, 3500)] {
+        list.text(
+            &format!("rain-{rain}-with-tenths-{tenths}"),
+            &format!("{MEADOW}; rain {rain} x10; tenths {tenths} x10"),
+        );
+    }
+}
+
+/// Years of both marks count together.
+fn tenths_year_counts(list: &mut List) {
+    for years in [19, 20, 50, 51] {
+        list.text(
+            &format!("tenths-years-{years}"),
+            &format!("{MEADOW}; tenths 8003 x{years}"),
+        );
+        let in_turn: Vec<&str> = ["rain 800", "tenths 8003"]
+            .into_iter()
+            .cycle()
+            .take(years)
+            .collect();
+        list.text(
+            &format!("years-in-turn-{years}"),
+            &format!("{MEADOW}; {}", in_turn.join(";")),
+        );
+    }
+    for (first, second) in [
+        (10, 9),
+        (18, 1),
+        (10, 10),
+        (19, 1),
+        (25, 25),
+        (49, 1),
+        (50, 1),
+        (30, 21),
+    ] {
+        list.text(
+            &format!("years-rain-{first}-tenths-{second}"),
+            &format!("{MEADOW}; rain 800 x{first}; tenths 8003 x{second}"),
+        );
+        list.text(
+            &format!("years-tenths-{first}-rain-{second}"),
+            &format!("{MEADOW}; tenths 8003 x{first}; rain 800 x{second}"),
+        );
+    }
+    list.text(
+        "tenths-years-51-bad",
+        &format!("{MEADOW}; rain 800 x20; tenths 8003 x30; tenths 350"),
+    );
+    list.text(
+        "rain-years-51-bad-after-tenths",
+        &format!("{MEADOW}; tenths 8003 x50; rain 3500"),
+    );
+    let few = format!("{MEADOW}; rain 800 x10; tenths 8003 x9");
+    list.text(
+        "tenths-years-19-second",
+        &format!("{FOREST_IN_TENTHS}; {few}"),
+    );
+    list.text(
+        "tenths-years-19-then-unit",
+        &format!("{few}; {FOREST_IN_TENTHS}"),
+    );
+    list.text("tenths-years-19-then-aquifer", &format!("{few}; {AQUIFER}"));
+    list.text("tenths-years-19-then-call", &format!("{few}; cancel 1"));
+    list.add("tenths-years-19-then-short-tenths", join(&few, b"PD"));
+    list.add("tenths-years-19-then-unknown", join(&few, b"XX"));
+}
+
+/// Rain in tenths in every place where it is out of sequence, and what is out of sequence after it.
+fn tenths_sequence(list: &mut List) {
+    let soil = "soil cover=8 soil=1 hectares=100";
+    for (name, tenths) in [("tenths", 8000), ("tenths-350", 350)] {
+        for (place, before) in [
+            ("first", String::new()),
+            ("without-soil", "unit".to_string()),
+            ("without-soil-second", format!("{FOREST}; unit")),
+            ("after-gauge", "unit; gauge outflow=5 x20".to_string()),
+            ("after-50-gauged", "unit; gauge outflow=5 x50".to_string()),
+            ("after-aquifer", format!("{FOREST}; {AQUIFER}")),
+            ("after-aquifer-alone", AQUIFER.to_string()),
+            ("after-call", format!("{FOREST}; cancel 1")),
+        ] {
+            list.text(
+                &format!("{name}-{place}"),
+                &format!("{before}; tenths {tenths}"),
+            );
+        }
+    }
+    for (name, record) in [("soil", soil), ("gauge", "gauge outflow=5")] {
+        for (place, years) in [
+            ("first-tenths", "tenths 8000"),
+            ("tenths", "tenths 8000 x20"),
+            ("50-tenths", "tenths 8000 x50"),
+            ("rain-and-tenths", "rain 800 x10; tenths 8000 x10"),
+            ("tenths-and-rain", "tenths 8000 x10; rain 800 x10"),
+        ] {
+            list.text(
+                &format!("{name}-after-{place}"),
+                &format!("{MEADOW}; {years}; {record}"),
+            );
+        }
+    }
+    let areas = repeated("soil cover=8 soil=1 hectares=625", 16);
+    list.text(
+        "areas-17-after-tenths",
+        &format!("unit; {areas}; tenths 8000; {soil}"),
+    );
+}
+
+/// Two and three bytes of a record of four, and marks that resemble it.
+fn tenths_short(list: &mut List) {
+    for (place, before) in [
+        ("first", String::new()),
+        ("in-unit", "unit".to_string()),
+        ("after-soil", MEADOW.to_string()),
+        ("after-50", format!("{MEADOW}; tenths 8000 x50")),
+        ("after-gauge", "unit; gauge outflow=5 x20".to_string()),
+        ("after-aquifer", format!("{FOREST}; {AQUIFER}")),
+        ("after-call", format!("{FOREST}; cancel 1")),
+    ] {
+        for bytes in [&b"PD"[..], b"PD\x40"] {
+            list.add(
+                &format!("short-tenths-{}-{place}", bytes.len()),
+                join(&before, bytes),
+            );
+        }
+    }
+    for (name, letters) in [
+        ("pd-lowercase", b"pd"),
+        ("pd-turned", b"DP"),
+        ("pc", b"PC"),
+        ("pe", b"PE"),
+    ] {
+        let unknown = [letters, &8000_u16.to_le_bytes()[..]].concat();
+        list.add(&format!("unknown-mark-{name}"), join(MEADOW, &unknown));
+    }
+}
+
+/// A book with its rain years in tenths at ten times their numbers, if `wanted` holds of their place.
+fn in_tenths(book: &[u8], wanted: fn(usize) -> bool) -> Vec<u8> {
+    let records = record::records_of(book).expect("the book has whole records");
+    let changed: Vec<Record> = records
+        .into_iter()
+        .enumerate()
+        .map(|(place, record)| match record {
+            Record::Rain(rain) if wanted(place) => Record::Tenths(10 * rain),
+            other => other,
+        })
+        .collect();
+    record::book_of(&changed)
+}
+
+/// Books that print the same in tenths, and books that print something else.
+fn tenths_runoff(list: &mut List) {
+    let in_millimetres = [
+        "case-a", "case-b", "case-c", "case-d", "case-e", "listing", "cuenca",
+    ];
+    for name in in_millimetres {
+        let named = list.0.iter().find(|named| named.name == name);
+        let book = named.expect("the book is named above").book.clone();
+        list.add(&format!("{name}-in-tenths"), in_tenths(&book, |_| true));
+        list.add(
+            &format!("{name}-half-in-tenths"),
+            in_tenths(&book, |place| place % 2 == 0),
+        );
+    }
+    let forest = "unit; soil cover=8 soil=1 hectares=10000";
+    let ten_hectares = "unit; soil cover=8 soil=1 hectares=8; soil cover=9 soil=1 hectares=2";
+    for tenths in [7995, 7998, 8001, 8002, 8004] {
+        list.text(
+            &format!("tenths-{tenths}-of-forest"),
+            &format!("{forest}; tenths {tenths} x20"),
+        );
+    }
+    for tenths in [4999, 5000, 5001] {
+        list.text(
+            &format!("tenths-{tenths}-of-ten-hectares"),
+            &format!("{ten_hectares}; tenths {tenths} x20"),
+        );
+    }
+    list.text(
+        "tenths-4999-once-of-ten-hectares",
+        &format!("{ten_hectares}; rain 500 x19; tenths 4999"),
+    );
+    list.text(
+        "tenths-4999-and-5001-of-ten-hectares",
+        &format!("{ten_hectares}; tenths 4999 x10; tenths 5001 x10"),
+    );
+    let largest = "unit; soil cover=13 soil=3 hectares=300000";
+    for years in [20, 50] {
+        list.text(
+            &format!("tenths-largest-{years}"),
+            &format!("{largest}; tenths 21500 x{years}"),
+        );
+    }
+    list.text(
+        "tenths-largest-mixed",
+        &format!("{largest}; rain 2150 x25; tenths 21500 x25"),
+    );
+    list.text("tenths-least", &format!("{largest}; tenths 3500 x20"));
+    for (name, pasture, wood, tenths) in [
+        ("below", 500, 499, 7909),
+        ("at", 500, 500, 7908),
+        ("above", 499, 500, 7908),
+    ] {
+        let areas =
+            format!("soil cover=5 soil=1 hectares={pasture}; soil cover=8 soil=2 hectares={wood}");
+        list.text(
+            &format!("tenths-k-{name}-15"),
+            &format!("unit; {areas}; tenths {tenths} x20"),
+        );
+    }
+    list.text("units-64-in-tenths", &repeated(FOREST_IN_TENTHS, 64));
+}
+
+/// The water that tenths of a millimetre bring decides flows and titles.
+fn tenths_flows(list: &mut List) {
+    let years = "soil cover=8 soil=1 hectares=10000; tenths 8002 x20";
+    for extraction in [1541, 1542] {
+        list.text(
+            &format!("tenths-extraction-{extraction}"),
+            &format!("unit extraction={extraction}; {years}"),
+        );
+    }
+    for volume in [1926, 1927] {
+        list.text(
+            &format!("tenths-withdraw-{volume}"),
+            &format!("{FOREST_IN_TENTHS}; withdraw unit=1 use=1 volume={volume}"),
+        );
+    }
+    list.text(
+        "tenths-shares",
+        &format!(
+            "unit downstream=3; {years}; unit downstream=3; {RAIN}; unit commitment=1000; {years}"
+        ),
+    );
 }
 
 fn areas(list: &mut List) {
@@ -447,10 +721,11 @@ fn short(mark: Mark, missing: usize) -> Vec<u8> {
     bytes
 }
 
-const DESCRIPTION_MARKS: [(Mark, &str); 5] = [
+const DESCRIPTION_MARKS: [(Mark, &str); 6] = [
     (Mark::Unit, "unit"),
     (Mark::Soil, "soil"),
     (Mark::Rain, "rain"),
+    (Mark::Tenths, "tenths"),
     (Mark::Gauge, "gauge"),
     (Mark::Aquifer, "aquifer"),
 ];

@@ -2,15 +2,16 @@
 //!
 //! Flows take one pass over the units from the first on, committed volumes one pass back from the
 //! last, and the sums of the titles one pass over the register. A demand times a contribution stays
-//! below 5·10^18, so that 64 bits hold every product.
+//! below 5·10^18 and the sum of 50 rain years below 10^18, so that 64 bits hold every product.
 
 use crate::basin::{is_storage_change, is_term, Aquifer, Unit};
 use crate::basin::{LARGEST_TERM, MOST_AQUIFERS, MOST_UNITS};
 use crate::book::{Refusal, FEWEST_YEARS, MOST_AREAS, MOST_HECTARES, MOST_YEARS};
-use crate::book::{LARGEST_GAUGED, LEAST_RAIN, MOST_RAIN};
+use crate::book::{LARGEST_GAUGED, LEAST_RAIN, LEAST_TENTHS, MOST_RAIN, MOST_TENTHS};
 use crate::record::Call;
 use crate::register::{return_of, Registered, Reply, Title, MOST_TITLES, RETURN_PERCENT};
 use crate::{report, LONGEST_BOOK};
+use std::ops::RangeInclusive;
 
 /// Units and aquifers with their entries, titles in force included, and the titles given. Number n
 /// stands at index n − 1; places from a count on are unused.
@@ -720,9 +721,9 @@ struct OpenUnit {
     /// Hectares times K in hundredths.
     weighted: i64,
     years: usize,
-    /// The sum of the years' rain.
+    /// The sum of the years' rain in tenths of a millimetre.
     rain: i64,
-    /// The sum of the squares of the years' rain.
+    /// The sum of the squares of the years' rain in tenths.
     rain_squared: i64,
     /// The sum of the gauged years.
     gauged: i64,
@@ -740,7 +741,8 @@ impl Reading<'_> {
         let mut at = 0;
         while at < book.len() {
             at += match mark(book, at)? {
-                b"PR" => self.rain(body(book, at)?, at)?,
+                b"PR" => self.rain(body(book, at)?, LEAST_RAIN..=MOST_RAIN, 10, at)?,
+                b"PD" => self.rain(body(book, at)?, LEAST_TENTHS..=MOST_TENTHS, 1, at)?,
                 b"AF" => self.gauge(body(book, at)?, at)?,
                 b"SU" => self.area(body(book, at)?, at)?,
                 b"UN" => self.unit(body(book, at)?, at)?,
@@ -795,15 +797,23 @@ impl Reading<'_> {
         Ok(8)
     }
 
-    fn rain(&mut self, body: &[u8; 2], at: usize) -> Result<usize, Refusal> {
+    /// Takes a rain year. Its number is one of `values`, in units of so many `tenths` of a millimetre.
+    fn rain(
+        &mut self,
+        body: &[u8; 2],
+        values: RangeInclusive<u16>,
+        tenths: i64,
+        at: usize,
+    ) -> Result<usize, Refusal> {
         let unit = self.open_unit(at)?;
         let rain = short(body, 0);
         refuse_if(unit.areas == 0, 3, at)?;
         refuse_if(unit.years >= MOST_YEARS, 4, at)?;
-        refuse_if(!(LEAST_RAIN..=MOST_RAIN).contains(&rain), 5, at)?;
+        refuse_if(!values.contains(&rain), 5, at)?;
+        let rain = tenths * i64::from(rain);
         unit.years += 1;
-        unit.rain += i64::from(rain);
-        unit.rain_squared += i64::from(rain) * i64::from(rain);
+        unit.rain += rain;
+        unit.rain_squared += rain * rain;
         Ok(4)
     }
 
@@ -880,16 +890,16 @@ impl OpenUnit {
         let years = self.years as i64;
         match self.areas {
             0 => rounded(self.gauged, years),
-            _ => rounded(self.rain_sum(), 60_000_000 * years),
+            _ => rounded(self.rain_sum(), 6_000_000_000 * years),
         }
     }
 
-    /// The sum of the rain years in 60,000,000ths. With S for the weighted hectares and A for the
-    /// hectares a year of P mm gives 3·S·P·(P − 250), and 4000·P·(S − 15·A) if that is positive.
+    /// The sum of the rain years in 6,000,000,000ths. With S for the weighted hectares and A for the
+    /// hectares a year of p tenths gives 3·S·p·(p − 2500), and 40,000·p·(S − 15·A) if that is positive.
     fn rain_sum(&self) -> i64 {
         let above_threshold = (self.weighted - 15 * self.hectares).max(0);
-        3 * self.weighted * (self.rain_squared - 250 * self.rain)
-            + 4000 * above_threshold * self.rain
+        3 * self.weighted * (self.rain_squared - 2500 * self.rain)
+            + 40_000 * above_threshold * self.rain
     }
 }
 

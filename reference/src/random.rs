@@ -5,7 +5,7 @@
 
 use crate::basin::{self, Unit};
 use crate::book::{self, FEWEST_YEARS, LARGEST_GAUGED, MOST_AREAS, MOST_HECTARES, MOST_YEARS};
-use crate::book::{LEAST_RAIN, MOST_RAIN};
+use crate::book::{LEAST_TENTHS, MOST_TENTHS};
 use crate::record::{self, AquiferRecord, Call, GaugeRecord, Record, SoilRecord, UnitRecord};
 use crate::register::{self, Balance, Reply};
 use crate::runoff;
@@ -180,9 +180,9 @@ fn water_source(s: &mut Source, units: usize) -> (Vec<Record>, i64) {
     if s.chance(60) {
         let areas = areas(s);
         let years = rain_years(s);
-        let runoff = runoff::rain_mean(&areas, &years).rounded() as i64;
+        let tenths: Vec<u32> = years.iter().filter_map(Record::tenths).collect();
+        let runoff = runoff::rain_mean(&areas, &tenths).rounded() as i64;
         let areas = areas.into_iter().map(Record::Soil);
-        let years = years.into_iter().map(Record::Rain);
         (areas.chain(years).collect(), runoff)
     } else {
         let few = units > 20 && !s.chance(1);
@@ -239,18 +239,29 @@ fn cover_and_soil(s: &mut Source) -> (u8, u8) {
     (s.between(1, 14) as u8, s.between(1, 3) as u8)
 }
 
-fn rain_years(s: &mut Source) -> Vec<u16> {
+/// Rain years of a unit, all in millimetres, all in tenths or mixed.
+fn rain_years(s: &mut Source) -> Vec<Record> {
     let count = year_count(s);
     let (least, most) = match s.below(6) {
-        0 => (800, 800),
-        1 => (LEAST_RAIN, LEAST_RAIN + 1),
-        2 => (MOST_RAIN - 1, MOST_RAIN),
-        3 => (400, 1200),
-        _ => (LEAST_RAIN, MOST_RAIN),
+        0 => (8000, 8000),
+        1 => (LEAST_TENTHS, LEAST_TENTHS + 10),
+        2 => (MOST_TENTHS - 10, MOST_TENTHS),
+        3 => (4000, 12_000),
+        _ => (LEAST_TENTHS, MOST_TENTHS),
     };
+    let percent_in_tenths = s.pick(&[0, 0, 0, 5, 50, 95, 100, 100]);
     (0..count)
-        .map(|_| s.between(i64::from(least), i64::from(most)) as u16)
+        .map(|_| rain_year(s, least, most, percent_in_tenths))
         .collect()
+}
+
+/// A rain year between two numbers of tenths that are whole millimetres.
+fn rain_year(s: &mut Source, least: u16, most: u16, percent_in_tenths: usize) -> Record {
+    let (least, most) = (i64::from(least), i64::from(most));
+    match s.chance(percent_in_tenths) {
+        true => Record::Tenths(s.between(least, most) as u16),
+        false => Record::Rain(s.between(least / 10, most / 10) as u16),
+    }
 }
 
 fn gauged_years(s: &mut Source, few: bool) -> Vec<GaugeRecord> {
@@ -485,7 +496,7 @@ fn faulty_description(s: &mut Source) -> Vec<Record> {
 }
 
 fn put_fault(s: &mut Source, records: &mut Vec<Record>) {
-    match s.below(14) {
+    match s.below(15) {
         0 => change_year_count(s, records),
         1 => change_rain(s, records),
         2 => change_soil(s, records),
@@ -499,6 +510,7 @@ fn put_fault(s: &mut Source, records: &mut Vec<Record>) {
         10 => change_gauged_sum(s, records),
         11 => change_gauge(s, records),
         12 => change_flow(s, records),
+        13 => insert_rain(s, records),
         _ => insert_out_of_sequence(s, records),
     }
 }
@@ -523,8 +535,12 @@ fn is_unit(record: &Record) -> bool {
     matches!(record, Record::Unit(_))
 }
 
+fn is_rain(record: &Record) -> bool {
+    matches!(record, Record::Rain(_) | Record::Tenths(_))
+}
+
 fn is_year(record: &Record) -> bool {
-    matches!(record, Record::Rain(_) | Record::Gauge(_))
+    is_rain(record) || matches!(record, Record::Gauge(_))
 }
 
 fn is_soil(record: &Record) -> bool {
@@ -557,19 +573,42 @@ fn change_year_count(s: &mut Source, records: &mut Vec<Record>) {
     }
 }
 
-/// Shortens or lengthens the records from `first` to `end` by copies of the first one.
+/// Shortens the records from `first` to `end`, or lengthens them by copies of them in turn.
 fn resize(records: &mut Vec<Record>, first: usize, end: usize, wanted: usize) {
-    let copy = records[first];
     let kept = end.min(first + wanted);
     let added = (first + wanted).saturating_sub(end);
-    records.splice(kept..end, vec![copy; added]);
+    let copies: Vec<Record> = records[first..end]
+        .iter()
+        .copied()
+        .cycle()
+        .take(added)
+        .collect();
+    records.splice(kept..end, copies);
 }
 
+/// Gives a rain year a number at or past a limit of one of the two marks, or the other mark.
 fn change_rain(s: &mut Source, records: &mut [Record]) {
-    let rain = s.pick(&[0, 349, 349, 350, 2150, 2151, 2151, 65_535]);
-    if let Some(place) = place(s, records, |record| matches!(record, Record::Rain(_))) {
-        records[place] = Record::Rain(rain);
-    }
+    let Some(place) = place(s, records, is_rain) else {
+        return;
+    };
+    records[place] = match (s.below(10), records[place]) {
+        (0, Record::Rain(number)) => Record::Tenths(number),
+        (0, Record::Tenths(number)) => Record::Rain(number),
+        (1..=4, _) => Record::Rain(limit_rain(s)),
+        _ => Record::Tenths(limit_tenths(s)),
+    };
+}
+
+/// Millimetres at or past a limit.
+fn limit_rain(s: &mut Source) -> u16 {
+    s.pick(&[0, 349, 349, 350, 2150, 2151, 2151, 3500, 21_500, 65_535])
+}
+
+/// Tenths of a millimetre at or past a limit.
+fn limit_tenths(s: &mut Source) -> u16 {
+    s.pick(&[
+        0, 349, 350, 3499, 3499, 3500, 21_500, 21_501, 21_501, 65_535,
+    ])
 }
 
 fn change_soil(s: &mut Source, records: &mut [Record]) {
@@ -634,7 +673,8 @@ fn fill_units(s: &mut Source, records: &mut Vec<Record>) {
             soil: 1,
             hectares: 100,
         }));
-        added.extend([Record::Rain(800); FEWEST_YEARS]);
+        let year = s.pick(&[Record::Rain(800), Record::Tenths(8000)]);
+        added.extend([year; FEWEST_YEARS]);
     }
     records.splice(end..end, added);
 }
@@ -786,6 +826,23 @@ fn change_flow(s: &mut Source, records: &mut [Record]) {
         let wanted = i64::from(unit.extraction) + flow + s.between(-1, 1);
         unit.extraction = wanted.clamp(0, TERM) as u32;
     }
+}
+
+/// Puts a rain year at the start, after a unit, an area, a year or an aquifer, or at the end.
+fn insert_rain(s: &mut Source, records: &mut Vec<Record>) {
+    let percent_in_tenths = 70;
+    let year = match s.chance(70) {
+        true => rain_year(s, LEAST_TENTHS, MOST_TENTHS, percent_in_tenths),
+        false if s.chance(percent_in_tenths) => Record::Tenths(limit_tenths(s)),
+        false => Record::Rain(limit_rain(s)),
+    };
+    let wanted = s.pick(&[is_unit, is_soil, is_year, is_aquifer]);
+    let after = match s.below(8) {
+        0 => 0,
+        1 => records.len(),
+        _ => place(s, records, wanted).map_or(0, |place| place + 1),
+    };
+    records.insert(after, year);
 }
 
 fn insert_out_of_sequence(s: &mut Source, records: &mut Vec<Record>) {
@@ -1110,7 +1167,9 @@ fn damage_bytes(s: &mut Source, mut book: Vec<u8>) -> Vec<u8> {
             book.remove(place);
         }
         6 => {
-            let added: &[u8] = s.pick(&[b"U", b"G", b"XX", b"un", b"NU", b"UN", b"GU", b"CA\0"]);
+            let added: &[u8] = s.pick(&[
+                b"U", b"G", b"XX", b"un", b"NU", b"UN", b"GU", b"CA\0", b"PD", b"PD\0",
+            ]);
             book.extend(added);
         }
         _ => {
@@ -1137,7 +1196,8 @@ fn random_record(s: &mut Source, within: bool) -> Record {
     match record {
         Record::Unit(_) if within => Record::Unit(reckless_entries(s)),
         Record::Soil(_) if within => Record::Soil(areas(s)[0]),
-        Record::Rain(_) if within => Record::Rain(rain_years(s)[0]),
+        Record::Rain(_) if within => rain_year(s, LEAST_TENTHS, MOST_TENTHS, 0),
+        Record::Tenths(_) if within => rain_year(s, LEAST_TENTHS, MOST_TENTHS, 100),
         Record::Gauge(_) if within => Record::Gauge(gauged_year(s, 1000, 1000, false)),
         Record::Aquifer(_) if within => Record::Aquifer(aquifer(s)),
         other => other,

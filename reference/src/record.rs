@@ -66,6 +66,8 @@ pub enum Record {
     Soil(SoilRecord),
     /// One year's rain in millimetres (PR).
     Rain(u16),
+    /// One year's rain in tenths of a millimetre (PD).
+    Tenths(u16),
     Gauge(GaugeRecord),
     Aquifer(AquiferRecord),
     Call(Call),
@@ -77,6 +79,7 @@ pub enum Mark {
     Unit,
     Soil,
     Rain,
+    Tenths,
     Gauge,
     Aquifer,
     Withdraw,
@@ -87,10 +90,11 @@ pub enum Mark {
 }
 
 /// All marks with their two bytes and the length of the body that follows.
-pub const MARKS: [(Mark, &[u8; 2], usize); 10] = [
+pub const MARKS: [(Mark, &[u8; 2], usize); 11] = [
     (Mark::Unit, b"UN", 29),
     (Mark::Soil, b"SU", 6),
     (Mark::Rain, b"PR", 2),
+    (Mark::Tenths, b"PD", 2),
     (Mark::Gauge, b"AF", 32),
     (Mark::Aquifer, b"AC", 20),
     (Mark::Withdraw, b"GU", 6),
@@ -200,6 +204,7 @@ fn decode(mark: Mark, body: &[u8]) -> Record {
             hectares: f.volume(),
         }),
         Mark::Rain => Record::Rain(f.short()),
+        Mark::Tenths => Record::Tenths(f.short()),
         Mark::Gauge => Record::Gauge(GaugeRecord {
             outflow: f.volume(),
             inflow: f.volume(),
@@ -247,6 +252,7 @@ impl Record {
             Record::Unit(_) => Mark::Unit,
             Record::Soil(_) => Mark::Soil,
             Record::Rain(_) => Mark::Rain,
+            Record::Tenths(_) => Mark::Tenths,
             Record::Gauge(_) => Mark::Gauge,
             Record::Aquifer(_) => Mark::Aquifer,
             Record::Call(Call::Withdraw { .. }) => Mark::Withdraw,
@@ -254,6 +260,15 @@ impl Record {
             Record::Call(Call::Transfer { .. }) => Mark::Transfer,
             Record::Call(Call::Bring { .. }) => Mark::Bring,
             Record::Call(Call::Cancel { .. }) => Mark::Cancel,
+        }
+    }
+
+    /// The rain of a rain year of either mark, in tenths of a millimetre.
+    pub fn tenths(&self) -> Option<u32> {
+        match *self {
+            Record::Rain(millimetres) => Some(10 * u32::from(millimetres)),
+            Record::Tenths(tenths) => Some(u32::from(tenths)),
+            _ => None,
         }
     }
 
@@ -273,7 +288,7 @@ impl Record {
                 bytes.extend([soil.cover, soil.soil]);
                 put_volumes(&mut bytes, &[soil.hectares]);
             }
-            Record::Rain(millimetres) => bytes.extend(millimetres.to_le_bytes()),
+            Record::Rain(rain) | Record::Tenths(rain) => bytes.extend(rain.to_le_bytes()),
             Record::Gauge(year) => {
                 put_volumes(&mut bytes, &[year.outflow, year.inflow]);
                 put_volumes(&mut bytes, &[year.extraction, year.exports]);

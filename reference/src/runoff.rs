@@ -21,7 +21,7 @@ pub const K: [[i128; 3]; 14] = [
 ];
 
 /// The denominator of the runoff of a rain year.
-pub const RAIN_DENOMINATOR: i128 = 60_000_000;
+pub const RAIN_DENOMINATOR: i128 = 6_000_000_000;
 
 /// A fraction with a positive denominator.
 #[derive(Clone, Copy, Debug, PartialEq, Eq)]
@@ -55,24 +55,24 @@ pub fn weighted_hectares(areas: &[SoilRecord]) -> i128 {
         .sum()
 }
 
-/// The runoff of one rain year, over `RAIN_DENOMINATOR`.
-pub fn rain_year(areas: &[SoilRecord], millimetres: u16) -> i128 {
-    let rain = i128::from(millimetres);
+/// The runoff of one rain year, given in tenths of a millimetre, over `RAIN_DENOMINATOR`.
+pub fn rain_year(areas: &[SoilRecord], tenths: u32) -> i128 {
+    let rain = i128::from(tenths);
     let weighted = weighted_hectares(areas);
     let threshold = 15 * hectares(areas);
-    let first = rain * 3 * weighted * (rain - 250);
+    let first = rain * 3 * weighted * (rain - 2500);
     let second = if weighted > threshold {
-        rain * 4000 * (weighted - threshold)
+        rain * 40_000 * (weighted - threshold)
     } else {
         0
     };
     first + second
 }
 
-/// The mean runoff of the rain years, unrounded.
-pub fn rain_mean(areas: &[SoilRecord], years: &[u16]) -> Fraction {
+/// The mean runoff of the rain years, given in tenths of a millimetre, unrounded.
+pub fn rain_mean(areas: &[SoilRecord], years: &[u32]) -> Fraction {
     Fraction {
-        numerator: years.iter().map(|rain| rain_year(areas, *rain)).sum(),
+        numerator: years.iter().map(|tenths| rain_year(areas, *tenths)).sum(),
         denominator: RAIN_DENOMINATOR * years.len() as i128,
     }
 }

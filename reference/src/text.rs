@@ -46,6 +46,7 @@ fn keyword(mark: Mark) -> &'static str {
         Mark::Unit => "unit",
         Mark::Soil => "soil",
         Mark::Rain => "rain",
+        Mark::Tenths => "tenths",
         Mark::Gauge => "gauge",
         Mark::Aquifer => "aquifer",
         Mark::Withdraw => "withdraw",
@@ -85,11 +86,12 @@ fn read_line(line: &str) -> Result<Option<(Record, usize)>, String> {
         .find(|mark| keyword(*mark) == word)
         .ok_or_else(|| format!("unknown keyword '{word}'"))?;
     let times = match mark {
-        Mark::Rain | Mark::Gauge => take_repetition(&mut words)?,
+        Mark::Rain | Mark::Tenths | Mark::Gauge => take_repetition(&mut words)?,
         _ => 1,
     };
     let record = match mark {
         Mark::Rain => Record::Rain(within(sole_number(&words)?, "rain")?),
+        Mark::Tenths => Record::Tenths(within(sole_number(&words)?, "tenths")?),
         Mark::Cancel => Record::Call(Call::Cancel {
             title: within(sole_number(&words)?, "title")?,
         }),
@@ -244,7 +246,7 @@ pub fn show(book: &[u8]) -> Result<String, BookFault> {
     let mut rest = records.as_slice();
     while let [first, ..] = rest {
         let times = match first {
-            Record::Rain(_) | Record::Gauge(_) => {
+            Record::Rain(_) | Record::Tenths(_) | Record::Gauge(_) => {
                 rest.iter().take_while(|record| *record == first).count()
             }
             _ => 1,
@@ -296,7 +298,7 @@ impl Headings {
 fn show_record(record: &Record) -> String {
     let word = keyword(record.mark());
     match *record {
-        Record::Rain(rain) => format!("{word} {rain}"),
+        Record::Rain(rain) | Record::Tenths(rain) => format!("{word} {rain}"),
         Record::Call(Call::Cancel { title }) => format!("{word} {title}"),
         Record::Unit(unit) => named(
             word,

@@ -3,7 +3,7 @@
 use reference::basin::{self, Unit};
 use reference::book::{next_call, open};
 use reference::random;
-use reference::record::Call;
+use reference::record::{book_of, records_of, Call, Record};
 use reference::register::{apply, return_of, Balance, Reply};
 use std::path::Path;
 
@@ -46,6 +46,33 @@ fn the_boundary_books_are_books_of_the_gate() {
             named.name
         );
     }
+}
+
+/// The book with every rain year in tenths at ten times its number, where all of these fit.
+fn in_tenths(book: &[u8]) -> Option<Vec<u8>> {
+    let mut records = records_of(book).ok()?;
+    for record in &mut records {
+        if let Record::Rain(rain) = record {
+            *record = Record::Tenths(rain.checked_mul(10)?);
+        }
+    }
+    Some(book_of(&records))
+}
+
+#[test]
+fn a_book_in_millimetres_prints_the_same_in_tenths() {
+    let mut books = 0;
+    for seed in 0..4000 {
+        let book = random::book(seed);
+        if let Some(in_tenths) = in_tenths(&book).filter(|changed| *changed != book) {
+            assert!(
+                reference::run(&in_tenths) == reference::run(&book),
+                "{seed}"
+            );
+            books += 1;
+        }
+    }
+    assert!(books > 1000, "{books}");
 }
 
 /// What the calls given and not cancelled add, worked from the calls alone.

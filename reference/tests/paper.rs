@@ -59,6 +59,32 @@ fn appendix_c() {
 }
 
 #[test]
+fn appendix_d() {
+    let text = include_str!("../../examples/tequisistlan.txt");
+    assert_eq!(printed_example(text), "unit 1 264955 0 0 264955\n");
+}
+
+#[test]
+fn rain_in_tenths() {
+    let forest = |years: &str| printed(&format!("{AREA}; {years}"));
+    assert_eq!(forest("tenths 8000 x20"), "unit 1 1540 0 0 1540\n");
+    assert_eq!(
+        forest("rain 400 x10; tenths 12000 x10"),
+        "unit 1 2100 0 0 2100\n"
+    );
+    // 8002 × 3 × 70,000 × 5502 / 6,000,000,000 is 1540.945 and some more.
+    assert_eq!(forest("tenths 8002 x20"), "unit 1 1541 0 0 1541\n");
+    assert_eq!(
+        forest("tenths 8002 x19; rain 800"),
+        "unit 1 1541 0 0 1541\n"
+    );
+    assert_eq!(
+        forest("tenths 8002 x10; rain 800 x10"),
+        "unit 1 1540 0 0 1540\n"
+    );
+}
+
+#[test]
 fn the_example_basin_prints_the_replies_of_its_comments() {
     let text = include_str!("../../examples/cuenca.txt");
     let expected: Vec<String> = text
@@ -86,6 +112,7 @@ fn an_empty_book_prints_nothing() {
 }
 
 const FOREST: &str = "unit; soil cover=8 soil=1 hectares=10000; rain 800 x20";
+const AREA: &str = "unit; soil cover=8 soil=1 hectares=10000";
 
 #[test]
 fn refusals_of_a_description() {
@@ -97,6 +124,19 @@ fn refusals_of_a_description() {
         (vec!["aquifer"; 33].join(";"), "4 at 704"),
         (format!("{FOREST}; rain 800 x31"), "4 at 239"),
         ("unit; soil".to_string(), "5 at 31"),
+        ("tenths 8000".to_string(), "3 at 0"),
+        ("unit; tenths 350".to_string(), "3 at 31"),
+        ("unit; gauge; tenths 8000".to_string(), "3 at 65"),
+        ("aquifer; tenths 8000".to_string(), "3 at 22"),
+        (format!("{AREA}; tenths 8000; soil"), "3 at 43"),
+        (format!("{AREA}; tenths 8000; gauge"), "3 at 43"),
+        (format!("{FOREST}; tenths 8000 x30; rain 800"), "4 at 239"),
+        (format!("{FOREST}; tenths 8000 x30; tenths 0"), "4 at 239"),
+        (format!("{AREA}; tenths 3499"), "5 at 39"),
+        (format!("{AREA}; tenths 21501"), "5 at 39"),
+        (format!("{AREA}; tenths 350"), "5 at 39"),
+        (format!("{AREA}; rain 3500"), "5 at 39"),
+        (format!("{AREA}; tenths 8000 x9; rain 800 x10"), "6 at 0"),
         (format!("{FOREST}; unit; gauge x19"), "6 at 119"),
         (
             "unit; soil cover=1 soil=1 hectares=300000; soil cover=1 soil=1 hectares=1".to_string(),
@@ -162,7 +202,14 @@ fn refusals_of_calls() {
 fn a_failing_call_record_is_printed_before_the_table() {
     let text = format!("{FOREST}; cancel 1");
     let table = "unit 1 1540 0 0 1540\n";
-    for (bytes, number) in [(&b"GU\x01"[..], 1), (b"G", 1), (b"XX", 2), (b"UN", 2)] {
+    for (bytes, number) in [
+        (&b"GU\x01"[..], 1),
+        (b"G", 1),
+        (b"XX", 2),
+        (b"UN", 2),
+        (b"PD", 2),
+        (b"PD\x40\x1f", 2),
+    ] {
         let mut book = book(&text);
         book.extend(bytes);
         let expected = format!("call 1 refused 19\nrefused {number} at 123\n{table}");

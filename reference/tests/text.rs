@@ -40,6 +40,14 @@ fn faults_have_their_line() {
         fault("rain 65536"),
         "line 1: 65536 does not fit in field 'rain'"
     );
+    assert_eq!(
+        fault("tenths 65536"),
+        "line 1: 65536 does not fit in field 'tenths'"
+    );
+    assert_eq!(
+        fault("tenths 800.5"),
+        "line 1: '800.5' is not a whole number of fitting size"
+    );
     assert_eq!(fault("rain 800 x0"), "line 1: repetition is not 1 to 65536");
     assert_eq!(
         fault("rain +8"),
@@ -74,6 +82,7 @@ fn bytes_that_are_no_records_have_their_offset() {
 fn values_past_every_limit_go_through_text() {
     let lines = "unit downstream=255 extraction=4294967295 storage=-2147483648\n\
                  soil cover=255 soil=255 hectares=4294967295\nrain 65535\nrain 0\n\
+                 tenths 65535\ntenths 0 x2\nrain 0\n\
                  gauge outflow=4294967295 storage=2147483647 x3\n\
                  aquifer storage=-2147483648 natural=4294967295\n\
                  withdraw unit=255 use=255 volume=4294967295\npump aquifer=255\n\

@@ -7,7 +7,7 @@ use native.Mathlib.Omega.{arith}
 use borrow.Author.Tests.{lt-ltb, le-ltb, eq-eqb, ne-eqb}
 use Rattle.laws.proofs.Cases.{by-lt, by-eq}
 use Rattle.record.specs.declared.Mark.{Mark}
-use Rattle.record.specs.declared.Mark.the-variants.{Un, Su, Pr, Af, Ac, Call, Unknown}
+use Rattle.record.specs.declared.Mark.the-variants.{Un, Su, Pr, Pd, Af, Ac, Call, Unknown}
 use Rattle.record.specs.Bytes.{bits8}
 use Rattle.record.specs.Record.{markOf}
 use Rattle.record.specs.Entries.{Entry, unitEntry, soilEntry, yearEntry, aquiferEntry, EntryAt, noEntry, failing, stands, wholeEntry, entryMarked, entryAt}
@@ -42,6 +42,7 @@ module _ (s : List ℕ) (at : ℕ) where
   mark-standing Un = whole-standing 31 _ (omega arith) (refl, refl)
   mark-standing Su = whole-standing 8 _ (omega arith) tt
   mark-standing Pr = whole-standing 4 _ (omega arith) tt
+  mark-standing Pd = whole-standing 4 _ (omega arith) tt
   mark-standing Af = whole-standing 34 _ (omega arith) tt
   mark-standing Ac = whole-standing 22 _ (omega arith) tt
   mark-standing Call = tt

@@ -13,8 +13,8 @@ use Rattle.model.specs.declared.Unit.{Unit as BasinUnit}
 use Rattle.model.specs.declared.Aquifer.{Aquifer}
 use Rattle.model.specs.declared.Balance.{Balance}
 use Rattle.model.specs.Fresh.{emptyUnit, emptyAquifer}
-use Rattle.runoff.specs.Year.{RainRange}
-use Rattle.runoff.specs.Record.{Plot, Gauged, ofRain, ofGauge}
+use Rattle.runoff.specs.Year.{RainRange, inTenths}
+use Rattle.runoff.specs.Record.{Plot, Rain, Gauged, ofRain, ofGauge}
 use Rattle.runoff.proofs.Rain.{rain-within}
 use Rattle.record.specs.Described.{DescribedUnit, addPlot, addYear, noUnit, summed, unitOf}
 use Rattle.record.specs.Entries.{Entry, unitEntry, soilEntry, yearEntry, aquiferEntry}
@@ -131,7 +131,7 @@ module _ (d : Description) (good : Good d) where
             (λ q. rw (snoc-before ws a emptyAquifer k (omega (arith, l))) (good .wells k (omega (arith, l))));
       }
 
-  -- What is known of a UN, an SU, a PR, an AF and an AC that is not refused.
+  -- What is known of a UN, an SU, a PR or PD, an AF and an AC that is not refused.
   pub clear-unit : (u : DescribedUnit) (at : ℕ) → entryVerdict d (unitEntry u) at ≡ clear
       → (closingFault (length (d .units)) (lastSums d) ≡ 0) × UnitClean (length (d .units)) (length (d .aquifers)) (summed u)
   clear-unit u at h =
@@ -142,9 +142,9 @@ module _ (d : Description) (good : Good d) where
       → SoilClean (length (d .units)) (length (d .aquifers)) (lastSums d) (p .cover) (p .soil) (p .hectares)
   clear-soil p at h = soil-clean _ _ (lastSums d) _ _ _ (cleared _ _ _ h .here)
 
-  pub clear-rain : (mm at : ℕ) → entryVerdict d (yearEntry (ofRain mm)) at ≡ clear
-      → RainClean (length (d .units)) (length (d .aquifers)) (lastSums d) mm
-  clear-rain mm at h = rain-clean _ _ (lastSums d) mm (cleared _ _ _ h .here)
+  pub clear-rain : (r : Rain) (at : ℕ) → entryVerdict d (yearEntry (ofRain r)) at ≡ clear
+      → RainClean (length (d .units)) (length (d .aquifers)) (lastSums d) (r .measure) (r .depth)
+  clear-rain r at h = rain-clean _ _ (lastSums d) (r .measure) (r .depth) (cleared _ _ _ h .here)
 
   pub clear-gauge : (y : Gauged) (at : ℕ) → entryVerdict d (yearEntry (ofGauge y)) at ≡ clear
       → GaugeClean (length (d .units)) (length (d .aquifers)) (lastSums d) (gaugedOutside y)
@@ -165,15 +165,16 @@ module _ (d : Description) (good : Good d) where
       good-last (addPlot x p) (c .after)
       (subst⁻¹ Sane (summed-plot x p (c .fresh)) (soil-sane (summed x) _ _ _ (good .sane) (c .fresh) (c .room) (c .known) (c .area)))
       (keep-records x _ _) (λ k. plot-kind x p (c .fresh))
-  good-entry (yearEntry (ofRain mm)) at h b =
+  good-entry (yearEntry (ofRain r)) at h b =
       let x = lastUnit d in
-      let c = clear-rain mm at h in
-      let range : RainRange (summed x .hectares) (summed x .weighted) mm = record { areaTo = good .sane .area; weightedTo = good .sane .weight; rainTo = c .most } in
-      good-last (addYear x (ofRain mm)) (c .after)
-      (subst⁻¹ Sane (summed-year x (ofRain mm))
+      let c = clear-rain r at h in
+      let tenths = inTenths (r .measure) (r .depth) in
+      let range : RainRange (summed x .hectares) (summed x .weighted) tenths = record { areaTo = good .sane .area; weightedTo = good .sane .weight; rainTo = c .most } in
+      good-last (addYear x (ofRain r)) (c .after)
+      (subst⁻¹ Sane (summed-year x (ofRain r))
       (year-sane (summed x) _ (good .sane) (c .room)
-      (record { gain = omega (arith, rain-within (summed x .hectares) (summed x .weighted) mm range); loss = omega arith }) (λ n. refl)))
-      (keep-records x _ _) (rain-kind x mm (c .soiled))
+      (record { gain = omega (arith, rain-within (summed x .hectares) (summed x .weighted) tenths range); loss = omega arith }) (λ n. refl)))
+      (keep-records x _ _) (rain-kind x r (c .soiled))
   good-entry (yearEntry (ofGauge y)) at h b =
       let x = lastUnit d in
       let c = clear-gauge y at h in

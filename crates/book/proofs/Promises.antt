@@ -33,7 +33,7 @@ use Rattle.basin.proofs.Soundness.{UnitSound, AquiferSound, sound-of, fresh-sou
 use Rattle.record.specs.Described.{DescribedUnit, noUnit, summed, unitOf}
 use Rattle.record.specs.Fault.{Closed, closingFault}
 use Rattle.book.specs.declared.Opened.{Opened}
-use Rattle.book.specs.Reading.{Description, lastUnit, lastSums, balanceOf, Outcome, read, refused, faultAt, ended, withEntry, readingFrom, reading, openedAs, opened}
+use Rattle.book.specs.Reading.{Description, lastUnit, lastSums, balanceOf, Outcome, read, refused, faultAt, missing, negative, ended, withEntry, readingFrom, reading, openedAs, opened}
 use Rattle.record.proofs.Clean.{Fine, WellFine}
 use Rattle.record.proofs.Means.{MeanOfYears, mean-of-years}
 use Rattle.book.proofs.Entries.{standing, by-record, reads-end, reads-failing, reads-faulty, reads-clear}
@@ -116,36 +116,32 @@ module _ (d : Description) (good : Good d) where
       nothing : (t : Slot) (j x : ℕ) → titled (viewOf (balanceOf d)) 0 t j ≤ x
       nothing t j x = omega (arith, places-none t j (viewOf (balanceOf d) .place))
 
--- The two tests of a whole description at its end: 8 and 10.
-abbrev missing : Description → Found
-missing d = first (length (d .units)) (λ j. ltb (length (d .units)) (getD (d .units) j noUnit .downstream))
+-- What holds of every refusal, and of a description that passes the tests at its end, holds of what its end gives.
+module _ (P : Outcome → Type 0) (fails : (n p : ℕ) → P (refused n p)) where
+  through-fault : (n : ℕ) (f : Found) (rest : Outcome) → (f ≡ Nothing → P rest) → P (faultAt n f rest)
+  through-fault n (At j) rest k = fails n (suc j)
+  through-fault n Nothing rest k = k refl
 
-abbrev negative : Description → Found
-negative d = first (length (d .units)) (λ j. not (nonNeg (flow (viewOf (balanceOf d)) j)))
+  pub through-end : (d : Description) (at : ℕ)
+      → (closingFault (length (d .units)) (lastSums d) ≡ 0 → missing d ≡ Nothing → negative (balanceOf d) d ≡ Nothing → P (read d at)) → P (ended d at)
+  through-end d at reads =
+      let c = closingFault (length (d .units)) (lastSums d) in
+      by-eq c 0
+      (λ e. rw (eq-eqb c 0 e)
+      (through-fault 8 (missing d) _ (λ m. through-fault 10 (negative (balanceOf d) d) _ (λ f. reads e m f))))
+      (λ e. rw (ne-eqb c 0 e) (fails c (lastUnit d .at)))
 
 -- What holds of every refusal, and of every description that passes the tests at its end, holds of what reading gives.
 module _ (P : Outcome → Type 0) (fails : (n p : ℕ) → P (refused n p))
-    (reads : (d : Description) → Good d → closingFault (length (d .units)) (lastSums d) ≡ 0 → missing d ≡ Nothing → negative d ≡ Nothing
+    (reads : (d : Description) → Good d → closingFault (length (d .units)) (lastSums d) ≡ 0 → missing d ≡ Nothing → negative (balanceOf d) d ≡ Nothing
     → (at : ℕ) → P (read d at))
   where
-    through-fault : (n : ℕ) (f : Found) (rest : Outcome) → (f ≡ Nothing → P rest) → P (faultAt n f rest)
-    through-fault n (At j) rest k = fails n (suc j)
-    through-fault n Nothing rest k = k refl
-
-    through-end : (d : Description) → Good d → (at : ℕ) → P (ended d at)
-    through-end d good at =
-        let c = closingFault (length (d .units)) (lastSums d) in
-        by-eq c 0
-        (λ e. rw (eq-eqb c 0 e)
-        (through-fault 8 (missing d) _ (λ m. through-fault 10 (negative d) _ (λ f. reads d good e m f at))))
-        (λ e. rw (ne-eqb c 0 e) (fails c (lastUnit d .at)))
-
     all-records : (f : ℕ) (s : List ℕ) (at : ℕ) (d : Description) → Good d → P (readingFrom f s at d)
     unfolding readingFrom
     all-records zero s at d good = fails 1 at
     all-records (suc f) s at d good =
         by-record s at d
-        (λ q. subst⁻¹ P (reads-end f s at d q) (through-end d good at))
+        (λ q. subst⁻¹ P (reads-end f s at d q) (through-end P fails d at (λ e m n. reads d good e m n at)))
         (λ n q. subst⁻¹ P (reads-failing f s at d n q) (fails n at))
         (λ e to n p q v. subst⁻¹ P (reads-faulty f s at d e to n p q v) (fails n p))
         (λ e to q v.

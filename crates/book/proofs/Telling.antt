@@ -6,12 +6,15 @@ use lib.ListN.{length}
 use borrow.Author.Tests.{lt-ltb, le-ltb, eq-eqb, ne-eqb}
 use Rattle.laws.proofs.Cases.{by-lt, by-eq}
 use Rattle.model.specs.declared.Aquifer.{Aquifer}
+use Rattle.runoff.specs.declared.Measure.{Measure}
+use Rattle.runoff.specs.declared.Measure.the-variants.{Millimetres, Tenths}
+use Rattle.runoff.specs.Record.{ofRain, ofGauge}
 use Rattle.record.specs.declared.UnitRecord.{UnitRecord}
 use Rattle.record.specs.declared.Mark.{Mark}
-use Rattle.record.specs.declared.Mark.the-variants.{Un, Su, Pr, Af, Ac, Call, Unknown}
+use Rattle.record.specs.declared.Mark.the-variants.{Un, Su, Pr, Pd, Af, Ac, Call, Unknown}
 use Rattle.record.specs.Bytes.{bits8, bits16, bits32}
 use Rattle.record.specs.Record.{unitRecord, aquiferRecord, markOf}
-use Rattle.record.specs.Described.{DescribedUnit, unitAt, plotAt, rainAt, gaugeAt, addPlot, addYear, summed}
+use Rattle.record.specs.Described.{DescribedUnit, unitAt, plotAt, rainAt, gaugedAt, addPlot, addYear, summed}
 use Rattle.record.specs.Entries.{Entry, unitEntry, soilEntry, yearEntry, aquiferEntry, noEntry, failing, stands, wholeEntry, entryMarked, entryAt}
 use Rattle.record.specs.Fault.{closingFault, unitFault, soilFault, rainFault, gaugeFault, aquiferFault, gaugeOutsideAt}
 use Rattle.record.proofs.Faults.{soil-clean, rain-clean, gauge-clean}
@@ -19,7 +22,7 @@ use Rattle.record.proofs.Summing.{summed-unit, summed-soil, summed-rain, summed
 use Rattle.book.specs.declared.Next.{Next}
 use Rattle.book.specs.declared.Next.the-variants.{Ends, Refused, Opens, Grows, Adds}
 use Rattle.book.specs.Reading.{Description, lastUnit, lastSums, withLast, withEntry, Verdict, clear, faulty, unlessFaulty, entryVerdict, refused, readingFrom}
-use Rattle.book.specs.Steps.{unless, wholeRecord, marked, next}
+use Rattle.book.specs.Steps.{unless, wholeRecord, rainStep, marked, next}
 use Rattle.book.proofs.Entries.{reads-failing, reads-faulty}
 
 -- A UN that opens a unit: it stands there and is not refused, and the sums that are told are the unit's.
@@ -107,6 +110,21 @@ module _ (s : List ℕ) (at : ℕ) (d : Description) where
       (λ n f. reads-faulty f s at d e (at + size) fault at (enough size e h l) (v ∙ found-none closing (lastUnit d .at) _ z ∙ found-faulty fault at clear n))
       (λ q. on (enough size e h l) (v ∙ found-none closing (lastUnit d .at) _ z ∙ found-none fault at clear q))))
 
+  rain-told : (m : Measure) → entryAt s at ≡ wholeEntry s at 4 (yearEntry (ofRain (rainAt m s at)))
+      → Told s at d (rainStep m s at (lastSums d) units aquifers)
+  rain-told m h =
+      one-told 4 (rainFault units aquifers (lastSums d) m (bits16 s (at + 2))) (yearEntry (ofRain (rainAt m s at))) _ h refl
+      (λ e v z.
+      record {
+        entry = yearEntry (ofRain (rainAt m s at));
+        unit = addYear (lastUnit d) (ofRain (rainAt m s at));
+        found = e;
+        passed = v;
+        kept = refl;
+        after = rain-clean units aquifers (lastSums d) m (bits16 s (at + 2)) z .after;
+        sums = sym (summed-rain m s at (lastUnit d));
+      })
+
   mark-told : (m : Mark) → entryAt s at ≡ entryMarked m s at → Told s at d (marked m s at (lastSums d) units aquifers)
   mark-told Un h =
       two-told 31 (closingFault units (lastSums d)) (unitFault units aquifers (unitRecord s at)) (unitEntry (unitAt s at)) _ h refl
@@ -124,24 +142,14 @@ module _ (s : List ℕ) (at : ℕ) (d : Description) where
         after = c .after;
         sums = sym (summed-soil s at (lastUnit d) (c .fresh));
       })
-  mark-told Pr h =
-      one-told 4 (rainFault units aquifers (lastSums d) (bits16 s (at + 2))) (yearEntry (rainAt s at)) _ h refl
-      (λ e v z.
-      record {
-        entry = yearEntry (rainAt s at);
-        unit = addYear (lastUnit d) (rainAt s at);
-        found = e;
-        passed = v;
-        kept = refl;
-        after = rain-clean units aquifers (lastSums d) (bits16 s (at + 2)) z .after;
-        sums = sym (summed-rain s at (lastUnit d));
-      })
+  mark-told Pr h = rain-told Millimetres h
+  mark-told Pd h = rain-told Tenths h
   mark-told Af h =
-      one-told 34 (gaugeFault units aquifers (lastSums d) (gaugeOutsideAt s at)) (yearEntry (gaugeAt s at)) _ h refl
+      one-told 34 (gaugeFault units aquifers (lastSums d) (gaugeOutsideAt s at)) (yearEntry (ofGauge (gaugedAt s at))) _ h refl
       (λ e v z.
       record {
-        entry = yearEntry (gaugeAt s at);
-        unit = addYear (lastUnit d) (gaugeAt s at);
+        entry = yearEntry (ofGauge (gaugedAt s at));
+        unit = addYear (lastUnit d) (ofGauge (gaugedAt s at));
         found = e;
         passed = v;
         kept = refl;

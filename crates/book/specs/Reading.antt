@@ -1,4 +1,4 @@
--- Reading a description, record by record, and opening it (document 01, "What each operation refuses"). Assumes nothing.
+-- Reading a description, record by record, and opening it (document 01, "What each operation refuses"; document 02 [1]). Assumes nothing.
 use Prim.Native.Nat.{ℕ, zero, suc, _+_, _-_}
 use mathlib.Core.Bool.{cond, not}
 use mathlib.Core.List.{List, [], _∷_, _++_}
@@ -6,6 +6,7 @@ use lib.Dec.{eqb, ltb}
 use lib.ListN.{length, getD, set, replicate}
 use lib.Signed.{nonNeg}
 use Rattle.laws.specs.Table.{table}
+use Rattle.model.specs.declared.Unit.{Unit}
 use Rattle.model.specs.declared.Aquifer.{Aquifer}
 use Rattle.model.specs.declared.Balance.{Balance}
 use Rattle.model.specs.declared.Found.{Found}
@@ -33,17 +34,21 @@ lastUnit d = getD (d .units) (length (d .units) - 1) noUnit
 abbrev pub lastSums : Description → UnitRecord
 lastSums d = summed (lastUnit d)
 
--- The balance that a description gives: its units and aquifers, and no titles. Unused places are empty.
-abbrev pub balanceOf : Description → Balance
-balanceOf d =
+-- The balance that a description gives, each of its units giving a unit of the balance: its units and aquifers, and no titles. Unused
+-- places are empty.
+abbrev pub balanceBy : (DescribedUnit → Unit) → Description → Balance
+balanceBy unit d =
     record {
-      units = table unitLimit emptyUnit (length (d .units)) (λ k. unitOf (getD (d .units) k noUnit));
+      units = table unitLimit emptyUnit (length (d .units)) (λ k. unit (getD (d .units) k noUnit));
       «unit_count» = length (d .units);
       aquifers = table aquiferLimit emptyAquifer (length (d .aquifers)) (λ k. getD (d .aquifers) k emptyAquifer);
       «aquifer_count» = length (d .aquifers);
       titles = replicate titleLimit emptyPlace;
       given = 0;
     }
+
+abbrev pub balanceOf : Description → Balance
+balanceOf d = balanceBy unitOf d
 
 -- The outcome of reading: a description and the offset where it ends, or a refusal's number and place.
 pub data Outcome : Type 0 where
@@ -55,16 +60,24 @@ abbrev pub faultAt : ℕ → Found → Outcome → Outcome
 faultAt n (At j) rest = refused n (suc j)
 faultAt n Nothing rest = rest
 
--- At the end, after closing: 8 downstream above the last unit, then 10 flow negative; both return the lowest-numbered unit at fault.
-abbrev pub ended : Description → ℕ → Outcome
-ended d at =
+-- The lowest-numbered unit whose downstream number is above the last unit, and the one whose flow is negative in a balance.
+abbrev pub missing : Description → Found
+missing d = first (length (d .units)) (λ j. ltb (length (d .units)) (getD (d .units) j noUnit .downstream))
+
+abbrev pub negative : Balance → Description → Found
+negative b d = first (length (d .units)) (λ j. not (nonNeg (flow (viewOf b) j)))
+
+-- At the end, after closing: 8 downstream above the last unit, then 10 flow negative in this balance.
+abbrev pub endedBy : Balance → Description → ℕ → Outcome
+endedBy b d at =
     cond (eqb (closingFault (length (d .units)) (lastSums d)) 0)
-    (faultAt 8 (first (length (d .units)) (λ j. ltb (length (d .units)) (getD (d .units) j noUnit .downstream)))
-    (faultAt 10 (first (length (d .units)) (λ j. not (nonNeg (flow (viewOf (balanceOf d)) j))))
-    (read d at)))
+    (faultAt 8 (missing d) (faultAt 10 (negative b d) (read d at)))
     (refused (closingFault (length (d .units)) (lastSums d)) (lastUnit d .at))
 
--- A UN adds a unit; SU, PR and AF belong to the last UN; AC adds an aquifer.
+abbrev pub ended : Description → ℕ → Outcome
+ended d at = endedBy (balanceOf d) d at
+
+-- A UN adds a unit; SU, PR, PD and AF belong to the last UN; AC adds an aquifer.
 abbrev pub withUnit : Description → DescribedUnit → Description
 withUnit d u = record { units = d .units ++ (u ∷ []); aquifers = d .aquifers }
 
@@ -116,9 +129,12 @@ abbrev pub reading : List ℕ → Outcome
 reading s = readingFrom (length s + 1) s 0 (record { units = []; aquifers = [] })
 
 -- Opening a book: the balance and the offset where the description ends, or, refused, a number, its place and the fresh balance.
+abbrev pub openedBy : (Description → Balance) → Outcome → Opened
+openedBy balance (read d at) = record { answer = answered none; place = at; balance = balance d }
+openedBy balance (refused n p) = record { answer = answered (number n); place = p; balance = freshBalance }
+
 abbrev pub openedAs : Outcome → Opened
-openedAs (read d at) = record { answer = answered none; place = at; balance = balanceOf d }
-openedAs (refused n p) = record { answer = answered (number n); place = p; balance = freshBalance }
+openedAs o = openedBy balanceOf o
 
 abbrev pub opened : List ℕ → Opened
 opened s = openedAs (reading s)

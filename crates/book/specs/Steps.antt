@@ -4,13 +4,18 @@ use mathlib.Core.Bool.{cond}
 use mathlib.Core.List.{List}
 use lib.Dec.{eqb, ltb}
 use lib.ListN.{length}
+use lib.IntN.{pos}
+use Rattle.runoff.specs.declared.Measure.{Measure}
+use Rattle.runoff.specs.declared.Measure.the-variants.{Millimetres, Tenths}
+use Rattle.runoff.specs.Record.{rainOf}
 use Rattle.record.specs.declared.UnitRecord.{UnitRecord}
 use Rattle.record.specs.declared.Mark.{Mark}
-use Rattle.record.specs.declared.Mark.the-variants.{Un, Su, Pr, Af, Ac, Call, Unknown}
+use Rattle.record.specs.declared.Mark.the-variants.{Un, Su, Pr, Pd, Af, Ac, Call, Unknown}
 use Rattle.book.specs.declared.Next.{Next}
 use Rattle.book.specs.declared.Next.the-variants.{Ends, Refused, Opens, Grows, Adds}
 use Rattle.record.specs.Bytes.{bits8, bits16, bits32}
-use Rattle.record.specs.Record.{markOf, unitRecord, withSoil, withYear, rainOf, gaugeOf, aquiferRecord}
+use Rattle.record.specs.Record.{markOf, unitRecord, withSoil, withYear, gaugeOf, aquiferRecord}
+use Rattle.record.specs.Described.{rainAt}
 use Rattle.record.specs.Fault.{closingFault, unitFault, soilFault, rainFault, gaugeOutsideAt, gaugeFault, aquiferFault}
 
 -- What a record does, once its bytes are there: it is refused under its fault, or goes on.
@@ -36,12 +41,12 @@ soilStep s at u units aquifers =
     (unless (soilFault units aquifers u (bits8 s (at + 2)) (bits8 s (at + 3)) (bits32 s (at + 4))) at
     (Grows (withSoil u (bits8 s (at + 2)) (bits8 s (at + 3)) (bits32 s (at + 4))) (at + 8)))
 
--- PR: 4 bytes.
-abbrev pub rainStep : List ℕ → ℕ → UnitRecord → ℕ → ℕ → Next
-rainStep s at u units aquifers =
+-- PR and PD: 4 bytes.
+abbrev pub rainStep : Measure → List ℕ → ℕ → UnitRecord → ℕ → ℕ → Next
+rainStep m s at u units aquifers =
     wholeRecord s at 4
-    (unless (rainFault units aquifers u (bits16 s (at + 2))) at
-    (Grows (withYear u (rainOf u (bits16 s (at + 2)))) (at + 4)))
+    (unless (rainFault units aquifers u m (bits16 s (at + 2))) at
+    (Grows (withYear u (pos (rainOf (u .hectares) (u .weighted) (rainAt m s at)))) (at + 4)))
 
 -- AF: 34 bytes.
 abbrev pub gaugeStep : List ℕ → ℕ → UnitRecord → ℕ → ℕ → Next
@@ -62,7 +67,8 @@ aquiferStep s at u units aquifers =
 abbrev pub marked : Mark → List ℕ → ℕ → UnitRecord → ℕ → ℕ → Next
 marked Un s at u units aquifers = unitStep s at u units aquifers
 marked Su s at u units aquifers = soilStep s at u units aquifers
-marked Pr s at u units aquifers = rainStep s at u units aquifers
+marked Pr s at u units aquifers = rainStep Millimetres s at u units aquifers
+marked Pd s at u units aquifers = rainStep Tenths s at u units aquifers
 marked Af s at u units aquifers = gaugeStep s at u units aquifers
 marked Ac s at u units aquifers = aquiferStep s at u units aquifers
 marked Call s at u units aquifers = Ends

@@ -23,6 +23,7 @@ use record::unit_record;
 use record::with_soil;
 use record::with_year;
 use record::year_at;
+use runoff::Measure;
 
 // A UN closes the open unit, then is refused or opens the next.
 fn unit_step(s: &[u8], at: usize, u: UnitRecord, units: usize, aquifers: usize) -> Next
@@ -83,11 +84,18 @@ fn soil_step(s: &[u8], at: usize, u: UnitRecord, units: usize, aquifers: usize) 
     }
 }
 
-// A PR belongs to the open unit.
-fn rain_step(s: &[u8], at: usize, u: UnitRecord, units: usize, aquifers: usize) -> Next
+// A PR or PD belongs to the open unit.
+fn rain_step(
+    s: &[u8],
+    at: usize,
+    u: UnitRecord,
+    units: usize,
+    aquifers: usize,
+    measure: Measure,
+) -> Next
     requires { ⌜ at ≤ length (now s) ⌝ }
     requires { ⌜ Sane u ⌝ }
-    ensures { λ r. ⌜ r ≡ steps.rainStep (now (s .entry)) at u units aquifers ⌝ }
+    ensures { λ r. ⌜ r ≡ steps.rainStep measure (now (s .entry)) at u units aquifers ⌝ }
 {
     if s.len() - at < 4 {
         return Next::Refused {
@@ -95,15 +103,15 @@ fn rain_step(s: &[u8], at: usize, u: UnitRecord, units: usize, aquifers: usize) 
             place: at,
         };
     }
-    let mm = bits16(s, at + 2);
-    let fault = rain_fault(units, aquifers, u, mm);
+    let tenths = runoff::in_tenths(measure, bits16(s, at + 2));
+    let fault = rain_fault(units, aquifers, u, tenths);
     if fault != 0 {
         return Next::Refused {
             number: fault,
             place: at,
         };
     }
-    let year = runoff::rain_year(u.hectares, u.weighted, mm as u64);
+    let year = runoff::rain_year(u.hectares, u.weighted, tenths);
     Next::Grows {
         unit: with_year(u, laws::difference(year, 0)),
         to: at + 4,
@@ -190,7 +198,8 @@ pub fn next(s: &[u8], at: usize, u: UnitRecord, units: usize, aquifers: usize) -
     match mark {
         Mark::Un => unit_step(s, at, u, units, aquifers),
         Mark::Su => soil_step(s, at, u, units, aquifers),
-        Mark::Pr => rain_step(s, at, u, units, aquifers),
+        Mark::Pr => rain_step(s, at, u, units, aquifers, Measure::Millimetres),
+        Mark::Pd => rain_step(s, at, u, units, aquifers, Measure::Tenths),
         Mark::Af => gauge_step(s, at, u, units, aquifers),
         Mark::Ac => aquifer_step(s, at, u, units, aquifers),
         Mark::Call => Next::Ends,

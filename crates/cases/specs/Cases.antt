@@ -1,4 +1,4 @@
--- The cases of document 01 ("Cases for the proof table") as one group of theorems of the definitions. Assumes nothing.
+-- The cases of document 01 ("Cases for the proof table") and two of rain in tenths as one group of theorems of the definitions. Assumes nothing.
 use Prim.Native.Nat.{ℕ, _+_, _-_, _*_, _/_}
 use mathlib.Core.Path.{_≡_, refl, sym, ap, _∙_}
 use mathlib.Core.Bool.{true}
@@ -14,9 +14,9 @@ use Rattle.model.specs.declared.Balance.{Balance}
 use Rattle.model.specs.declared.Answer.the-variants.{Accepted, Refused}
 use Rattle.model.specs.View.{View, viewOf}
 use Rattle.runoff.specs.Soil.{coefficient, coefficients}
-use Rattle.runoff.specs.Year.{rainYear, rainParts}
+use Rattle.runoff.specs.Year.{inTenths, rainYear, rainParts}
 use Rattle.runoff.specs.Mean.{rounded}
-use Rattle.runoff.specs.Record.{Plot, areaOf, weightedOf}
+use Rattle.runoff.specs.Record.{Plot, Rain, areaOf, weightedOf, rainOf}
 use Rattle.river.specs.Flow.{flow}
 use Rattle.river.specs.Reserve.{contribution, inflow, total, demand, committedTo, committed, ownReserve}
 use Rattle.figures.specs.Figures.{unitFigures, aquiferFigures, noUnitFigures, noAquiferFigures}
@@ -35,19 +35,19 @@ use Rattle.register.specs.Reply.{grantReply}
 use Rattle.register.specs.Calls.{after}
 use Rattle.text.specs.Text.{ascii}
 use Rattle.listing.specs.Listing.{printed}
-use Rattle.cases.specs.Printed.{printedDescription, printedBook}
-use Rattle.cases.specs.OneUnit.{meadow, forest, half, under, steady, uneven, mixed, gauges, rainBook, gaugedBook, opensOne, opens-a, opens-b, opens-c, opens-d, opens-e, opens-mixed, opens-gauged}
+use Rattle.cases.specs.Printed.{millimetres, printedDescription, printedBook}
+use Rattle.cases.specs.OneUnit.{meadow, forest, half, under, tequisistlan, steady, uneven, mixed, bothMarks, tequisistlanYears, gauges, rainBook, gaugedBook, opensOne, opens-a, opens-b, opens-c, opens-d, opens-e, opens-mixed, opens-both, opens-tequisistlan, opens-gauged}
 use Rattle.cases.specs.Balances.{firstTitle, printedBalance, firstBalance, printed-opens, printed-sound, first-sound, calls-are, downstream-reply, sevenTitle, eightTitle, cancelledBalance, after-cancelled}
 use Rattle.cases.specs.Lines.{after-first, printed-is}
 
--- The rain of some years together.
-abbrev pub rainTotal : List ℕ → ℕ
+-- The rain of some years together, in tenths.
+abbrev pub rainTotal : List Rain → ℕ
 rainTotal [] = 0
-rainTotal (mm ∷ years) = mm + rainTotal years
+rainTotal (r ∷ years) = inTenths (r .measure) (r .depth) + rainTotal years
 
--- What a year of rain yields on soils, in 60,000,000ths of a thousand m³.
+-- What a year of so many mm yields on soils, in 6,000,000,000ths of a thousand m³.
 abbrev pub yearOn : List Plot → ℕ → ℕ
-yearOn plots mm = rainYear (areaOf plots) (weightedOf plots) mm
+yearOn plots mm = rainOf (areaOf plots) (weightedOf plots) (millimetres mm)
 
 -- A unit's row of the table: flow, committed, own reserve, availability. An aquifer's: recharge, availability.
 abbrev pub unitRow : ℕ → ℕ → ℕ → ℕ → UnitFigures
@@ -90,7 +90,7 @@ pub record CasesHold : Type 0 where
   pub b : opened (rainBook forest (steady 800)) ≡ opensOne 119 1540
   -- (c) as b, ten years 400 mm, ten 1200. The formula applied to the mean rain, which is 800 mm, would give 1540.
   pub c : opened (rainBook forest uneven) ≡ opensOne 119 2100
-  pub c-mean : rainTotal uneven ≡ 20 * 800
+  pub c-mean : rainTotal uneven ≡ 20 * 8000
   pub c-mean-rain : rounded (yearOn forest 800) rainParts ≡ 1540
   -- (d) 500 m³ a year, so 1.
   pub d-year : 1000 * yearOn half 500 ≡ 500 * rainParts
@@ -101,6 +101,10 @@ pub record CasesHold : Type 0 where
   -- Rounded once: on the soils of (d) nineteen years of 500 m³ and one of 240 give 0, though each year rounded would give 1.
   pub rounded-once : opened (rainBook half mixed) ≡ opensOne 127 0
   pub each-year-rounded : rounded (19 * rounded (yearOn half 500) rainParts + rounded (yearOn half 400) rainParts) 20 ≡ 1
+  -- Tenths: with ten of the years of (d) at 499.9 mm the mean is below 500 m³, so 0; rounded to 500 mm first they would give 1, as in (d).
+  pub tenths-count : opened (rainBook half bothMarks) ≡ opensOne 127 0
+  -- Appendix D of 000, which prints 264.96 million m³.
+  pub appendix-d : opened (rainBook tequisistlan tequisistlanYears) ≡ opensOne 135 264955
   -- Gauged years: nineteen of 1000 − 200 + 30 + 40 − 50 − 60 + 7 − 8 = 759 and one of 769. Their mean is 759.5, and a half goes up.
   pub gauged : opened (gaugedBook gauges) ≡ opensOne 711 760
   -- (f) the printed book before any call: it is accepted, its description ends where the calls begin, and its figures are
@@ -136,7 +140,7 @@ pub record CasesHold : Type 0 where
   pub cancelled-from-the-sum : returned 1 7 + returned 1 8 - (returned 1 (7 + 8) - returned 1 7) ≡ 0
 
 -- What the misreadings of (c), (d) and (e) would give.
-case-c-mean : rainTotal uneven ≡ 20 * 800
+case-c-mean : rainTotal uneven ≡ 20 * 8000
 case-c-mean = refl
 
 case-c-mean-rain : rounded (yearOn forest 800) rainParts ≡ 1540
@@ -237,6 +241,8 @@ cases-hold =
       e = opens-e;
       rounded-once = opens-mixed;
       each-year-rounded = case-each;
+      tenths-count = opens-both;
+      appendix-d = opens-tequisistlan;
       gauged = opens-gauged;
       f-accepted = ap (λ (o : Opened). o .answer) printed-opens;
       f-place = ap (λ (o : Opened). o .place) printed-opens ∙ ends;

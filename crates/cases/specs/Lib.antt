@@ -1,4 +1,4 @@
--- The cases of document 01, and the book that it prints.
+-- The cases of document 01, the book that it prints, and two cases of rain in tenths.
 pub mod Printed
 pub mod OneUnit
 pub mod Balances

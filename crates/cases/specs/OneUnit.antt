@@ -1,7 +1,7 @@
 -- Books of one unit, and the balances that they open. Assumes nothing.
 use Prim.Native.Nat.{ℕ}
 use mathlib.Core.Path.{_≡_, refl}
-use mathlib.Core.List.{List, [], _∷_, _++_}
+use mathlib.Core.List.{List, [], _∷_, _++_, map}
 use lib.ListN.{replicate}
 use lib.IntN.{ℤ, pos, negsuc}
 use Rattle.laws.specs.Sum.{sumOf}
@@ -14,12 +14,12 @@ use Rattle.model.specs.Answers.{firstFrom}
 use Rattle.runoff.specs.Soil.{coefficient, coefficients}
 use Rattle.runoff.specs.Year.{rainYear}
 use Rattle.runoff.specs.Mean.{rounded}
-use Rattle.runoff.specs.Record.{Plot, Gauged, areaOf, weightedOf, yearsSum}
+use Rattle.runoff.specs.Record.{Plot, Rain, Gauged, areaOf, weightedOf, yearsSum}
 use Rattle.river.specs.Flow.{flow}
 use Rattle.book.specs.declared.Opened.{Opened}
 use Rattle.book.specs.Reading.{readingFrom, opened}
 use Rattle.record.specs.Entries.{entryAt}
-use Rattle.cases.specs.Printed.{unitBytes, soilBytes, rainBytes, gaugeBytes}
+use Rattle.cases.specs.Printed.{unitBytes, soilBytes, millimetres, tenths, rainBytes, gaugeBytes}
 
 -- So many hectares of a cover on a soil.
 abbrev pub plot : ℕ → ℕ → ℕ → Plot
@@ -38,15 +38,30 @@ half = plot 8 1 8 ∷ plot 9 1 2 ∷ []
 abbrev pub under : List Plot
 under = plot 8 1 1 ∷ plot 9 1 6 ∷ []
 
+-- The soils of appendix D of 000, K = 0.25 on 2213 km²: two equal areas of 0.24 and 0.26.
+abbrev pub tequisistlan : List Plot
+tequisistlan = plot 2 1 110650 ∷ plot 1 1 110650 ∷ []
+
 -- Twenty years of so much rain; the years of (c), ten of 400 mm and ten of 1200; nineteen years of 500 mm and one of 400.
-abbrev pub steady : ℕ → List ℕ
-steady mm = replicate 20 mm
+abbrev pub steady : ℕ → List Rain
+steady mm = replicate 20 (millimetres mm)
 
-abbrev pub uneven : List ℕ
-uneven = replicate 10 400 ++ replicate 10 1200
+abbrev pub uneven : List Rain
+uneven = replicate 10 (millimetres 400) ++ replicate 10 (millimetres 1200)
 
-abbrev pub mixed : List ℕ
-mixed = replicate 19 500 ++ 400 ∷ []
+abbrev pub mixed : List Rain
+mixed = replicate 19 (millimetres 500) ++ millimetres 400 ∷ []
+
+-- Ten years of 500 mm by PR and ten of 499.9 mm by PD.
+abbrev pub bothMarks : List Rain
+bothMarks = replicate 10 (millimetres 500) ++ replicate 10 (tenths 4999)
+
+-- The years 1971 to 1992 of appendix D.
+abbrev pub tequisistlanYears : List Rain
+tequisistlanYears =
+    map tenths
+    (9865 ∷ 7278 ∷ 11633 ∷ 8410 ∷ 7917 ∷ 6240 ∷ 4850 ∷ 8638 ∷ 11162 ∷ 6622 ∷ 11867 ∷ 6921 ∷ 7374 ∷ 10620 ∷ 6624 ∷ 9107 ∷ 6415 ∷ 9633 ∷ 9288
+    ∷ 3929 ∷ 8909 ∷ 8377 ∷ [])
 
 -- A gauged year with this storage change, and another number in each field.
 abbrev pub yearWith : ℤ → Gauged
@@ -71,16 +86,16 @@ abbrev plotsBytes : List Plot → List ℕ
 plotsBytes [] = []
 plotsBytes (p ∷ plots) = soilBytes (p .cover) (p .soil) (p .hectares) ++ plotsBytes plots
 
-abbrev rainsBytes : List ℕ → List ℕ
+abbrev rainsBytes : List Rain → List ℕ
 rainsBytes [] = []
-rainsBytes (mm ∷ years) = rainBytes mm ++ rainsBytes years
+rainsBytes (r ∷ years) = rainBytes r ++ rainsBytes years
 
 abbrev gaugesBytes : List Gauged → List ℕ
 gaugesBytes [] = []
 gaugesBytes (y ∷ years) = gaugeBytes y ++ gaugesBytes years
 
 -- The book of one outlet with 0 in all its entries, with soil records and rain years, or with gauged years.
-abbrev pub rainBook : List Plot → List ℕ → List ℕ
+abbrev pub rainBook : List Plot → List Rain → List ℕ
 rainBook plots rains = unitBytes 0 0 0 ++ plotsBytes plots ++ rainsBytes rains
 
 abbrev pub gaugedBook : List Gauged → List ℕ
@@ -141,6 +156,14 @@ opens-e = refl
 pub opens-mixed : opened (rainBook half mixed) ≡ opensOne 127 0
 unfolding readingFrom entryAt table tabulate firstFrom flow gather gatherTo sumOf yearsSum areaOf weightedOf rainYear coefficient coefficients rounded
 opens-mixed = refl
+
+pub opens-both : opened (rainBook half bothMarks) ≡ opensOne 127 0
+unfolding readingFrom entryAt table tabulate firstFrom flow gather gatherTo sumOf yearsSum areaOf weightedOf rainYear coefficient coefficients rounded
+opens-both = refl
+
+pub opens-tequisistlan : opened (rainBook tequisistlan tequisistlanYears) ≡ opensOne 135 264955
+unfolding readingFrom entryAt table tabulate firstFrom flow gather gatherTo sumOf yearsSum areaOf weightedOf rainYear coefficient coefficients rounded
+opens-tequisistlan = refl
 
 pub opens-gauged : opened (gaugedBook gauges) ≡ opensOne 711 760
 unfolding readingFrom entryAt table tabulate firstFrom flow gather gatherTo sumOf yearsSum areaOf weightedOf rounded

@@ -1,8 +1,10 @@
--- The book of document 01 ("One book, printed") as bytes. Assumes nothing.
+-- Records as bytes, and the book of document 01 ("One book, printed"). Assumes nothing.
 use Prim.Native.Nat.{ℕ, zero, suc, _-_, _/_, _%_, _^_}
 use mathlib.Core.List.{List, [], _∷_, _++_}
 use lib.IntN.{ℤ, pos, negsuc}
-use Rattle.runoff.specs.Record.{Gauged}
+use Rattle.runoff.specs.declared.Measure.{Measure}
+use Rattle.runoff.specs.declared.Measure.the-variants.{Millimetres, Tenths}
+use Rattle.runoff.specs.Record.{Rain, Gauged}
 
 -- 16 and 32 bits, little-endian.
 abbrev pub bytes16 : ℕ → List ℕ
@@ -30,9 +32,19 @@ unitBytes downstream extraction commitment =
 abbrev pub soilBytes : ℕ → ℕ → ℕ → List ℕ
 soilBytes cover soil hectares = 83 ∷ 85 ∷ cover ∷ soil ∷ bytes32 hectares
 
--- PR: one year's rain.
-abbrev pub rainBytes : ℕ → List ℕ
-rainBytes mm = 80 ∷ 82 ∷ bytes16 mm
+-- One year's rain, by a PR in millimetres or by a PD in tenths.
+abbrev pub millimetres : ℕ → Rain
+millimetres mm = record { measure = Millimetres; depth = mm }
+
+abbrev pub tenths : ℕ → Rain
+tenths p = record { measure = Tenths; depth = p }
+
+abbrev rainMark : Measure → List ℕ
+rainMark Millimetres = 80 ∷ 82 ∷ []
+rainMark Tenths = 80 ∷ 68 ∷ []
+
+abbrev pub rainBytes : Rain → List ℕ
+rainBytes r = rainMark (r .measure) ++ bytes16 (r .depth)
 
 -- AF: one gauged year.
 abbrev pub gaugeBytes : Gauged → List ℕ
@@ -58,7 +70,7 @@ wellTransferBytes aquifer unit volume = 84 ∷ 65 ∷ aquifer ∷ unit ∷ bytes
 -- A unit of 10,000 ha of one cover and soil with twenty years of 800 mm.
 abbrev pub wholeUnit : ℕ → ℕ → ℕ → ℕ → ℕ → List ℕ
 wholeUnit downstream extraction commitment cover soil =
-    unitBytes downstream extraction commitment ++ soilBytes cover soil 10000 ++ repeated 20 (rainBytes 800)
+    unitBytes downstream extraction commitment ++ soilBytes cover soil 10000 ++ repeated 20 (rainBytes (millimetres 800))
 
 -- Units 1 and 2 drain to 3, an outlet with extraction 3000 and commitment 1000. Unit 1 has cover 14 soil 2; units 2 and 3 each cover 8
 -- soil 1. Aquifer: −200, 900, 1300, 500, 1300.

@@ -1,1 +1,1 @@
-// The cases of document 01 are theorems of the definitions, in specs/; there is no code.
+// The cases of document 01, and two of rain in tenths, are theorems of the definitions, in specs/; there is no code.

@@ -154,9 +154,9 @@ unfoldable pub lcmFrom : ℕ → ℕ → ℕ
 lcmFrom a zero = 1
 lcmFrom a (suc n) = lcm (lcmFrom a n) (a + n)
 
--- M is 60,000,000 times the least common multiple of 20 to 50.
+-- M is 6,000,000,000 times the least common multiple of 20 to 50.
 unfoldable pub scale : ℕ
-scale = 60000000 * lcmFrom 20 31
+scale = 6000000000 * lcmFrom 20 31
 
 -- An integer taken m times.
 abbrev pub times : ℕ → ℤ → ℤ

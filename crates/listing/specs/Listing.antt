@@ -14,6 +14,7 @@ use Rattle.figures.specs.declared.UnitFigures.{UnitFigures}
 use Rattle.figures.specs.declared.AquiferFigures.{AquiferFigures}
 use Rattle.figures.specs.Figures.{unitFigures, aquiferFigures}
 use Rattle.basin.specs.Sound.{sound}
+use Rattle.book.specs.declared.Opened.{Opened}
 use Rattle.book.specs.Reading.{opened}
 use Rattle.record.specs.declared.Ending.{Ending}
 use Rattle.record.specs.declared.Ending.the-variants.{Finished, Failed}
@@ -74,8 +75,11 @@ abbrev pub answerText : List ℕ → Answer → ℕ → Balance → List ℕ
 answerText s Accepted place b = runText s place b
 answerText s (Refused n) place b = refusedLine n place
 
--- 21 a book over 65,536 bytes, place 65536, printed as a refused description.
-abbrev pub printed : List ℕ → List ℕ
-printed s =
+-- 21 a book over 65,536 bytes, place 65536, printed as a refused description. Otherwise what its opening gives.
+abbrev pub printedBy : List ℕ → Opened → List ℕ
+printedBy s o =
     cond (ltb 65536 (length s)) (refusedLine 21 65536)
-    (answerText s (opened s .answer) (opened s .place) (opened s .balance))
+    (answerText s (o .answer) (o .place) (o .balance))
+
+abbrev pub printed : List ℕ → List ℕ
+printed s = printedBy s (opened s)

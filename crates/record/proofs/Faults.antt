@@ -1,5 +1,5 @@
 -- What a field that is not outside its values satisfies. Assumes nothing.
-use Prim.Native.Nat.{ℕ, suc, _+_, _≤_, _<_}
+use Prim.Native.Nat.{ℕ, suc, _+_, _*_, _≤_, _<_}
 use mathlib.Core.Path.{_≡_, refl, sym, _∙_}
 use mathlib.Core.Bool.{Bool, true, false, cond, _||_, true≢false}
 use lib.Dec.{eqb, ltb, leb}
@@ -13,12 +13,14 @@ use Rattle.laws.proofs.Parts.{Less, less-above, less-below, by-sign}
 use Rattle.model.specs.declared.Aquifer.{Aquifer}
 use Rattle.record.specs.declared.UnitRecord.{UnitRecord}
 use Rattle.runoff.specs.Soil.{Known}
-use Rattle.record.specs.Fault.{notTerm, notStorage, termsOutside, aquiferOutside, soilOutside, soilFault, rainFault, gaugeOutsideBy, gaugeOutside, gaugeFault, YearRange, gaugeOutsideAt, gaugedOutside}
+use Rattle.record.specs.Fault.{notTerm, notStorage, termsOutside, aquiferOutside, soilOutside, soilFault, rainOutside, rainFault, gaugeOutsideBy, gaugeOutside, gaugeFault, YearRange, gaugeOutsideAt, gaugedOutside}
 use Rattle.record.specs.Described.{gaugedAt}
 use mathlib.Core.List.{List}
 use Rattle.record.specs.Bytes.{bits32, signedBits32}
 use Rattle.record.specs.Record.{gaugeOf}
-use Rattle.runoff.specs.Year.{gaugedYear}
+use Rattle.runoff.specs.declared.Measure.{Measure}
+use Rattle.runoff.specs.declared.Measure.the-variants.{Millimetres, Tenths}
+use Rattle.runoff.specs.Year.{inTenths, gaugedYear}
 use Rattle.runoff.specs.Record.{Gauged, gaugedOf}
 use Rattle.runoff.proofs.Gauged.{gauged-parts}
 
@@ -125,27 +127,48 @@ soil-clean units aquifers u cover soil hectares e =
       area = ltb-false 300000 (u .hectares + hectares) (p₆ .not);
     }
 
-pub record RainClean (units aquifers : ℕ) (u : UnitRecord) (mm : ℕ) : Type 0 where
+-- Rain inside its values is at most 21,500 tenths, in either measure.
+rain-most : (m : Measure) (depth : ℕ) → rainOutside m depth ≡ false → inTenths m depth ≤ 21500
+rain-most Millimetres mm e = omega (arith, ltb-false 2150 mm (or-right (ltb mm 350) _ e))
+rain-most Tenths p e = ltb-false 21500 p (or-right (ltb p 3500) _ e)
+
+-- Millimetres are inside their values exactly where ten times as many tenths are, so that a year may be tested in tenths.
+outside-in-tenths : (m : Measure) (depth : ℕ) → rainOutside Tenths (inTenths m depth) ≡ rainOutside m depth
+outside-in-tenths Millimetres mm = λ i. low i || high i
+  where
+    low : ltb (10 * mm) 3500 ≡ ltb mm 350
+    low = by-lt mm 350 (λ h. lt-ltb (10 * mm) 3500 (omega arith) ∙ sym (lt-ltb mm 350 h)) (λ h. le-ltb (10 * mm) 3500 (omega arith) ∙ sym (le-ltb mm 350 h))
+
+    high : ltb 21500 (10 * mm) ≡ ltb 2150 mm
+    high =
+        by-lt 2150 mm (λ h. lt-ltb 21500 (10 * mm) (omega arith) ∙ sym (lt-ltb 2150 mm h)) (λ h. le-ltb 21500 (10 * mm) (omega arith) ∙ sym (le-ltb 2150 mm h))
+outside-in-tenths Tenths p = refl
+
+pub fault-in-tenths : (units aquifers : ℕ) (u : UnitRecord) (m : Measure) (depth : ℕ)
+    → rainFault units aquifers u Tenths (inTenths m depth) ≡ rainFault units aquifers u m depth
+fault-in-tenths units aquifers u m depth = rw (outside-in-tenths m depth)
+
+pub record RainClean (units aquifers : ℕ) (u : UnitRecord) (m : Measure) (depth : ℕ) : Type 0 where
   pub after : (units ≡ 0 → ⊥)
   pub before : aquifers ≡ 0
   pub soiled : (u .soils ≡ 0 → ⊥)
   pub room : u .years < 50
-  pub most : mm ≤ 2150
+  pub most : inTenths m depth ≤ 21500
 
-pub rain-clean : (units aquifers : ℕ) (u : UnitRecord) (mm : ℕ) → rainFault units aquifers u mm ≡ 0 → RainClean units aquifers u mm
-rain-clean units aquifers u mm e =
+pub rain-clean : (units aquifers : ℕ) (u : UnitRecord) (m : Measure) (depth : ℕ) → rainFault units aquifers u m depth ≡ 0
+    → RainClean units aquifers u m depth
+rain-clean units aquifers u m depth e =
     let p₁ = pass (ltb 0 aquifers) 2 _ e in
     let p₂ = pass (eqb units 0) 2 _ (p₁ .on) in
     let p₃ = pass (eqb (u .soils) 0) 2 _ (p₂ .on) in
     let p₄ = pass (leb 50 (u .years)) 3 _ (p₃ .on) in
-    let p₅ = pass (ltb mm 350) 4 _ (p₄ .on) in
-    let p₆ = pass (ltb 2150 mm) 4 _ (p₅ .on) in
+    let p₅ = pass (rainOutside m depth) 4 _ (p₄ .on) in
     record {
       after = eqb-false units 0 (p₂ .not);
       before = omega (arith, ltb-false 0 aquifers (p₁ .not));
       soiled = eqb-false (u .soils) 0 (p₃ .not);
       room = leb-false 50 (u .years) (p₄ .not);
-      most = ltb-false 2150 mm (p₆ .not);
+      most = rain-most m depth (p₅ .not);
     }
 
 pub record GaugeClean (units aquifers : ℕ) (u : UnitRecord) (outside : Bool) : Type 0 where

@@ -1,11 +1,10 @@
 -- A unit is read as a unit with rain years or as a gauged one, and its natural runoff is the mean of those years. Assumes nothing.
-use Prim.Native.Nat.{ℕ}
 use mathlib.Core.Path.{_≡_, refl, ap, _∙_}
 use mathlib.Core.Logic.{_⊎_, inl, inr}
 use mathlib.Core.List.{List, [], _∷_, _++_, map}
 use lib.ListN.{length, length-append}
 use native.Mathlib.Omega.{arith}
-use Rattle.runoff.specs.Record.{Plot, Gauged, Year, ofRain, ofGauge, rainRunoff, gaugedRunoff, runoffOf}
+use Rattle.runoff.specs.Record.{Plot, Rain, Gauged, Year, ofRain, ofGauge, rainRunoff, gaugedRunoff, runoffOf}
 use Rattle.runoff.proofs.Record.{rain-mean, gauged-mean}
 use Rattle.record.specs.Described.{DescribedUnit, addPlot, addYear, RainUnit, GaugedUnit, unitOf}
 
@@ -28,14 +27,14 @@ map-more f (y ∷ xs) x = ap (λ (l : List _). f y ∷ l) (map-more f xs x)
 pub plot-kind : (u : DescribedUnit) (p : Plot) → length (u .years) ≡ 0 → Kind (addPlot u p)
 plot-kind u p e = inl (record { rains = []; soiled = omega (arith, length-append (u .plots) (p ∷ [])); all-rain = none (u .years) e })
 
-pub rain-kind : (u : DescribedUnit) (mm : ℕ) → (length (u .plots) ≡ 0 → ⊥) → Kind u → Kind (addYear u (ofRain mm))
-rain-kind u mm n (inl r) =
+pub rain-kind : (u : DescribedUnit) (rain : Rain) → (length (u .plots) ≡ 0 → ⊥) → Kind u → Kind (addYear u (ofRain rain))
+rain-kind u rain n (inl r) =
     inl (record {
-      rains = r .rains ++ (mm ∷ []);
+      rains = r .rains ++ (rain ∷ []);
       soiled = r .soiled;
-      all-rain = ap (λ (l : List Year). l ++ (ofRain mm ∷ [])) (r .all-rain) ∙ map-more ofRain (r .rains) mm;
+      all-rain = ap (λ (l : List Year). l ++ (ofRain rain ∷ [])) (r .all-rain) ∙ map-more ofRain (r .rains) rain;
     })
-rain-kind u mm n (inr g) = absurd (n (ap length (g .bare)))
+rain-kind u rain n (inr g) = absurd (n (ap length (g .bare)))
 
 pub gauge-kind : (u : DescribedUnit) (y : Gauged) → length (u .plots) ≡ 0 → Kind u → Kind (addYear u (ofGauge y))
 gauge-kind u y e (inl r) = absurd (omega (arith, r .soiled))

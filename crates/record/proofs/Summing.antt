@@ -6,11 +6,12 @@ use lib.IntN.{pos}
 use lib.ListN.{length, length-append}
 use native.Mathlib.Omega.{arith}
 use Rattle.laws.specs.Signed.{above, below}
-use Rattle.runoff.specs.Record.{Plot, Year, areaOf, weightedOf, yearGives, yearsSum, sumOn}
+use Rattle.runoff.specs.declared.Measure.{Measure}
+use Rattle.runoff.specs.Record.{Plot, Year, ofRain, ofGauge, areaOf, weightedOf, rainOf, yearGives, yearsSum, sumOn}
 use Rattle.runoff.proofs.Record.{areaOf-more, weightedOf-more, yearsSum-more}
-use Rattle.record.specs.Record.{unitRecord, withSums, withSoil, withYear, rainOf, gaugeOf, noSums}
-use Rattle.record.specs.Described.{DescribedUnit, unitAt, plotAt, rainAt, gaugeAt, withRecords, addPlot, addYear, noUnit, summed}
-use Rattle.record.specs.Bytes.{bits8, bits16, bits32}
+use Rattle.record.specs.Record.{unitRecord, withSums, withSoil, withYear, gaugeOf, noSums}
+use Rattle.record.specs.Described.{DescribedUnit, unitAt, plotAt, rainAt, gaugedAt, withRecords, addPlot, addYear, noUnit, summed}
+use Rattle.record.specs.Bytes.{bits8, bits32}
 use Rattle.record.specs.Fault.{Sane}
 use Rattle.record.proofs.Clean.{Fine}
 
@@ -56,16 +57,17 @@ begun-sane u p y =
     let low : below (sumOn (u .plots) (u .years)) ≡ 0 = ap below sum in
     record { few = omega arith; area = omega arith; weight = omega arith; short = omega arith; gains = omega arith; losses = omega arith; rain = λ n. low }
 
--- The same of the SU, the PR and the AF at an offset.
+-- The same of the SU, the PR or PD, and the AF at an offset.
 pub summed-soil : (s : List ℕ) (i : ℕ) (u : DescribedUnit) → length (u .years) ≡ 0
     → summed (addPlot u (plotAt s i)) ≡ withSoil (summed u) (bits8 s (i + 2)) (bits8 s (i + 3)) (bits32 s (i + 4))
 summed-soil s i u e = summed-plot u (plotAt s i) e
 
-pub summed-rain : (s : List ℕ) (i : ℕ) (u : DescribedUnit) → summed (addYear u (rainAt s i)) ≡ withYear (summed u) (rainOf (summed u) (bits16 s (i + 2)))
-summed-rain s i u = summed-year u (rainAt s i)
+pub summed-rain : (m : Measure) (s : List ℕ) (i : ℕ) (u : DescribedUnit)
+    → summed (addYear u (ofRain (rainAt m s i))) ≡ withYear (summed u) (pos (rainOf (areaOf (u .plots)) (weightedOf (u .plots)) (rainAt m s i)))
+summed-rain m s i u = summed-year u (ofRain (rainAt m s i))
 
-pub summed-gauge : (s : List ℕ) (i : ℕ) (u : DescribedUnit) → summed (addYear u (gaugeAt s i)) ≡ withYear (summed u) (gaugeOf s i)
-summed-gauge s i u = summed-year u (gaugeAt s i)
+pub summed-gauge : (s : List ℕ) (i : ℕ) (u : DescribedUnit) → summed (addYear u (ofGauge (gaugedAt s i))) ≡ withYear (summed u) (gaugeOf s i)
+summed-gauge s i u = summed-year u (ofGauge (gaugedAt s i))
 
 -- The fields of a unit's UN stay inside their values, whatever records follow.
 pub keep-records : (u : DescribedUnit) (plots : List Plot) (years : List Year) (k : ℕ) → Fine k (summed u) → Fine k (summed (withRecords u plots years))

@@ -1,11 +1,12 @@
--- A unit as its book describes it, by its records (document 01, "The book"). Assumes nothing.
+-- A unit as its book describes it, by its records (document 01, "The book"; document 02 [1]). Assumes nothing.
 use Prim.Native.Nat.{ℕ, _+_, _<_}
 use mathlib.Core.Path.{_≡_}
 use mathlib.Core.List.{List, [], _∷_, _++_, map}
 use lib.IntN.{ℤ, pos}
 use lib.ListN.{length}
 use Rattle.model.specs.declared.Unit.{Unit}
-use Rattle.runoff.specs.Record.{Plot, Gauged, Year, ofRain, ofGauge, areaOf, weightedOf, sumOn, runoffOf}
+use Rattle.runoff.specs.declared.Measure.{Measure}
+use Rattle.runoff.specs.Record.{Plot, Rain, Gauged, Year, ofRain, ofGauge, areaOf, weightedOf, sumOn, runoffOf}
 use Rattle.record.specs.declared.UnitRecord.{UnitRecord}
 use Rattle.record.specs.Bytes.{bits8, bits16, bits32, signedBits32}
 
@@ -45,9 +46,9 @@ unitAt s i =
 abbrev pub plotAt : List ℕ → ℕ → Plot
 plotAt s i = record { cover = bits8 s (i + 2); soil = bits8 s (i + 3); hectares = bits32 s (i + 4) }
 
--- The PR at an offset: one year's rain (16 bits).
-abbrev pub rainAt : List ℕ → ℕ → Year
-rainAt s i = ofRain (bits16 s (i + 2))
+-- The PR or PD at an offset: one year's rain (16 bits), of a PR in millimetres, of a PD in tenths.
+abbrev pub rainAt : Measure → List ℕ → ℕ → Rain
+rainAt measure s i = record { measure = measure; depth = bits16 s (i + 2) }
 
 -- The AF at an offset: one gauged year, 32 bits each: outflow, inflow, extraction, exports, imports, returns, evaporation, storage
 -- change (signed).
@@ -63,9 +64,6 @@ gaugedAt s i =
       evaporation = bits32 s (i + 26);
       storage = signedBits32 s (i + 30);
     }
-
-abbrev pub gaugeAt : List ℕ → ℕ → Year
-gaugeAt s i = ofGauge (gaugedAt s i)
 
 -- A unit with other soil records and years.
 abbrev pub withRecords : DescribedUnit → List Plot → List Year → DescribedUnit
@@ -91,9 +89,9 @@ addPlot u p = withRecords u (u .plots ++ (p ∷ [])) (u .years)
 abbrev pub addYear : DescribedUnit → Year → DescribedUnit
 addYear u y = withRecords u (u .plots) (u .years ++ (y ∷ []))
 
--- A unit has either soil records and then rain years, or gauged years and no soil records.
+-- A unit has either soil records and then rain years, PR and PD mixed as they come, or gauged years and no soil records.
 pub record RainUnit (u : DescribedUnit) : Type 0 where
-  pub rains : List ℕ
+  pub rains : List Rain
   pub soiled : 0 < length (u .plots)
   pub all-rain : u .years ≡ map ofRain rains
 
@@ -140,9 +138,9 @@ summed u =
       sum = sumOn (u .plots) (u .years);
     }
 
--- The unit of the balance: its UN's fields and its natural runoff.
-abbrev pub unitOf : DescribedUnit → Unit
-unitOf u =
+-- The unit of the balance: its UN's fields and a natural runoff.
+abbrev pub unitGiving : DescribedUnit → ℕ → Unit
+unitGiving u runoff =
     record {
       downstream = u .downstream;
       extraction = u .extraction;
@@ -152,5 +150,8 @@ unitOf u =
       evaporation = u .evaporation;
       storage = u .storage;
       commitment = u .commitment;
-      runoff = runoffOf (u .plots) (u .years);
+      runoff = runoff;
     }
+
+abbrev pub unitOf : DescribedUnit → Unit
+unitOf u = unitGiving u (runoffOf (u .plots) (u .years))

@@ -1,4 +1,4 @@
--- The refusals of reading (document 01, "What each operation refuses"), by number, first match wins; 0 where none applies.
+-- The refusals of reading (document 01, "What each operation refuses"; document 02 [1]), by number, first match wins; 0 where none applies.
 -- They work on the number of units and aquifers read so far and on the open unit. Assumes nothing.
 use Prim.Native.Nat.{ℕ, _+_, _*_, _≤_}
 use mathlib.Core.Path.{_≡_}
@@ -12,6 +12,8 @@ use Rattle.model.specs.declared.Aquifer.{Aquifer}
 use Rattle.model.specs.Limits.{unitLimit, aquiferLimit, termLimit}
 use Rattle.river.specs.Wells.{recharge}
 use Rattle.runoff.specs.Mean.{divisor}
+use Rattle.runoff.specs.declared.Measure.{Measure}
+use Rattle.runoff.specs.declared.Measure.the-variants.{Millimetres, Tenths}
 use Rattle.runoff.specs.Record.{Gauged, Year, ofRain, ofGauge}
 use Rattle.record.specs.Bytes.{bits32, signedBits32}
 use Rattle.record.specs.Record.{isGauged}
@@ -75,15 +77,19 @@ soilFault units aquifers u cover soil hectares =
     (cond (soilOutside cover soil hectares) 5
     (cond (ltb 300000 (u .hectares + hectares)) 7 0)))))
 
--- PR: 3 after AC, before any UN, without SU; 4 a 51st year; 5 rain below 350 or above 2150 mm.
-abbrev pub rainFault : ℕ → ℕ → UnitRecord → ℕ → ℕ
-rainFault units aquifers u mm =
+-- PR: 350 to 2150 mm. PD: 3500 to 21500 tenths.
+abbrev pub rainOutside : Measure → ℕ → Bool
+rainOutside Millimetres mm = ltb mm 350 || ltb 2150 mm
+rainOutside Tenths p = ltb p 3500 || ltb 21500 p
+
+-- PR, and PD as PR is: 3 after AC, before any UN, without SU; 4 a 51st year of either mark; 5 rain outside its values.
+abbrev pub rainFault : ℕ → ℕ → UnitRecord → Measure → ℕ → ℕ
+rainFault units aquifers u measure depth =
     cond (ltb 0 aquifers) 3
     (cond (eqb units 0) 3
     (cond (eqb (u .soils) 0) 3
     (cond (leb 50 (u .years)) 4
-    (cond (ltb mm 350) 5
-    (cond (ltb 2150 mm) 5 0)))))
+    (cond (rainOutside measure depth) 5 0))))
 
 -- AF: outflow and inflow at most 2,000,000,000, the other five terms, and a storage change.
 abbrev pub gaugeOutsideBy : ℕ → ℕ → Bool → ℤ → Bool
@@ -109,13 +115,13 @@ gaugeFault units aquifers u outside =
     (cond (leb 50 (u .years)) 4
     (cond outside 5 0))))
 
--- A year, by its kind: PR or AF.
+-- A year, by its kind: PR or PD, or AF.
 abbrev pub gaugedOutside : Gauged → Bool
 gaugedOutside y =
     gaugeOutside (y .outflow) (y .inflow) (y .extraction) (y .exports) (y .imports) (y .returns) (y .evaporation) (y .storage)
 
 abbrev pub yearFault : ℕ → ℕ → UnitRecord → Year → ℕ
-yearFault units aquifers u (ofRain mm) = rainFault units aquifers u mm
+yearFault units aquifers u (ofRain r) = rainFault units aquifers u (r .measure) (r .depth)
 yearFault units aquifers u (ofGauge y) = gaugeFault units aquifers u (gaugedOutside y)
 
 -- AC: four terms and a storage change.
@@ -135,14 +141,14 @@ pub record Sane (u : UnitRecord) : Type 0 where
   pub area : u .hectares ≤ 300000
   pub weight : u .weighted ≤ 33 * u .hectares
   pub short : u .years ≤ 50
-  pub gains : above (u .sum) ≤ 600000000000000 * u .years
-  pub losses : below (u .sum) ≤ 600000000000000 * u .years
+  pub gains : above (u .sum) ≤ 60000000000000000 * u .years
+  pub losses : below (u .sum) ≤ 60000000000000000 * u .years
   pub rain : (u .soils ≡ 0 → ⊥) → below (u .sum) ≡ 0
 
 -- A year that was read: small enough to be added up.
 pub record YearRange (year : ℤ) : Type 0 where
-  pub gain : above year ≤ 600000000000000
-  pub loss : below year ≤ 600000000000000
+  pub gain : above year ≤ 60000000000000000
+  pub loss : below year ≤ 60000000000000000
 
 -- What holds of a unit that was closed: at least 20 years, a sum that is not negative, and a mean of at most 10,000,000.
 pub record Closed (u : UnitRecord) : Type 0 where

@@ -1,17 +1,17 @@
--- The records of a description (document 01, "The book"). Assumes nothing.
+-- The records of a description (document 01, "The book"; document 02 [1]). Assumes nothing.
 use Prim.Native.Nat.{ℕ, _+_}
 use mathlib.Core.Bool.{Bool, cond, _&&_, _||_}
 use mathlib.Core.List.{List}
 use lib.Dec.{eqb}
 use lib.IntN.{ℤ, pos, _+ℤ_}
 use Rattle.runoff.specs.Soil.{weighted}
-use Rattle.runoff.specs.Year.{rainYear, gaugedYear}
+use Rattle.runoff.specs.Year.{gaugedYear}
 use Rattle.runoff.specs.Mean.{naturalRunoff}
 use Rattle.model.specs.declared.Unit.{Unit}
 use Rattle.model.specs.declared.Aquifer.{Aquifer}
 use Rattle.record.specs.declared.UnitRecord.{UnitRecord}
 use Rattle.record.specs.declared.Mark.{Mark}
-use Rattle.record.specs.declared.Mark.the-variants.{Un, Su, Pr, Af, Ac, Call, Unknown}
+use Rattle.record.specs.declared.Mark.the-variants.{Un, Su, Pr, Pd, Af, Ac, Call, Unknown}
 use Rattle.record.specs.Bytes.{bits8, bits32, signedBits32}
 
 -- The two letters stand at the two bytes.
@@ -22,16 +22,17 @@ spells a b x y = eqb a x && eqb b y
 abbrev pub isCall : ℕ → ℕ → Bool
 isCall a b = spells a b 71 85 || (spells a b 71 65 || (spells a b 84 85 || (spells a b 84 65 || spells a b 67 65)))
 
--- The marks: PR, AF, SU, UN and AC of a description, and those of the calls.
+-- The marks: PR, AF, PD, SU, UN and AC of a description, and those of the calls.
 abbrev pub markOf : ℕ → ℕ → Mark
 markOf a b =
     cond (spells a b 80 82) Pr
     (cond (spells a b 65 70) Af
+    (cond (spells a b 80 68) Pd
     (cond (spells a b 83 85) Su
     (cond (spells a b 85 78) Un
     (cond (spells a b 65 67) Ac
     (cond (isCall a b) Call
-    Unknown)))))
+    Unknown))))))
 
 -- The fields of the UN at an offset, and the sums of no records.
 abbrev pub unitRecord : List ℕ → ℕ → UnitRecord
@@ -80,10 +81,6 @@ withSoil u cover soil hectares =
 
 abbrev pub withYear : UnitRecord → ℤ → UnitRecord
 withYear u year = withSums u (u .soils) (u .hectares) (u .weighted) (u .years + 1) (u .sum +ℤ year)
-
--- What a rain year gives on the unit's hectares and weighted hectares.
-abbrev pub rainOf : UnitRecord → ℕ → ℤ
-rainOf u mm = pos (rainYear (u .hectares) (u .weighted) mm)
 
 -- What the gauged year of the AF at an offset gives.
 abbrev pub gaugeOf : List ℕ → ℕ → ℤ

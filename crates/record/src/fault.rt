@@ -7,6 +7,7 @@ ghost use lib.ListN.{length};
 ghost use Rattle.laws.specs.Signed.{above};
 ghost use Rattle.model.specs.Limits.{termLimit};
 ghost use Rattle.river.specs.Wells.{recharge};
+ghost use Rattle.runoff.specs.declared.Measure.the-variants.{Tenths};
 ghost use Rattle.record.specs.Bytes.{signedBits32};
 ghost use Rattle.record.specs.Fault as faults;
 ghost use Rattle.record.specs.Fault.{Sane};
@@ -193,9 +194,19 @@ pub fn soil_fault(
     0
 }
 
-// A PR: 3, 4 or 5.
-pub fn rain_fault(units: usize, aquifers: usize, u: UnitRecord, mm: u32) -> u8
-    ensures { λ r. ⌜ r ≡ faults.rainFault units aquifers u mm ⌝ }
+// A year's rain in tenths outside its values.
+fn rain_outside(tenths: u64) -> bool
+    ensures { λ r. ⌜ r ≡ faults.rainOutside Tenths tenths ⌝ }
+{
+    if tenths < 3500 {
+        return true;
+    }
+    tenths > 21500
+}
+
+// A year's rain in tenths: 3, 4 or 5.
+pub fn rain_fault(units: usize, aquifers: usize, u: UnitRecord, tenths: u64) -> u8
+    ensures { λ r. ⌜ r ≡ faults.rainFault units aquifers u Tenths tenths ⌝ }
 {
     if 0 < aquifers {
         return 3;
@@ -209,10 +220,7 @@ pub fn rain_fault(units: usize, aquifers: usize, u: UnitRecord, mm: u32) -> u8
     if 50 <= u.years {
         return 4;
     }
-    if mm < 350 {
-        return 5;
-    }
-    if mm > 2150 {
+    if rain_outside(tenths) {
         return 5;
     }
     0

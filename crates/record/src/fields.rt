@@ -54,6 +54,9 @@ pub fn mark_of(a: u8, b: u8) -> Mark
     if spells(a, b, 65, 70) {
         return Mark::Af;
     }
+    if spells(a, b, 80, 68) {
+        return Mark::Pd;
+    }
     if spells(a, b, 83, 85) {
         return Mark::Su;
     }

@@ -24,7 +24,7 @@ pub use fields::with_year;
 pub use fields::year_at;
 
 // A unit as its book describes it: the offset of its UN mark, the fields of its UN, and of the records after it how many soil records
-// there are, their hectares and weighted hectares, how many years there are and their sum (rain years in 60,000,000ths).
+// there are, their hectares and weighted hectares, how many years there are and their sum (rain years in 6,000,000,000ths).
 pub struct UnitRecord {
     pub at: usize,
     pub downstream: u8,
@@ -47,6 +47,7 @@ pub enum Mark {
     Un,
     Su,
     Pr,
+    Pd,
     Af,
     Ac,
     Call,

@@ -9,9 +9,8 @@ use native.Mathlib.Nat.{mul-le-mul-left}
 use native.Mathlib.Omega.{arith}
 use borrow.Author.Tests.{ne-eqb}
 use Rattle.runoff.specs.Soil.{weighted, Known}
-use Rattle.runoff.specs.Year.{rainYear}
 use Rattle.runoff.specs.Mean.{naturalRunoff}
-use Rattle.runoff.specs.Record.{Plot, areaOf, weightedOf, rainSum, rainRunoff, Gauged, gaugedOf, gaugedSum, gaugedRunoff, Year, ofRain, ofGauge, yearGives, yearsSum, runoffOf}
+use Rattle.runoff.specs.Record.{Plot, areaOf, weightedOf, Rain, rainOf, rainSum, rainRunoff, Gauged, gaugedOf, gaugedSum, gaugedRunoff, Year, ofRain, ofGauge, yearGives, yearsSum, runoffOf}
 use Rattle.runoff.proofs.Table.{coefficient-within}
 
 -- Hectares times K is at most 33 times the hectares.
@@ -37,10 +36,10 @@ yearsSum-more A S (x ∷ years) y =
     ap (λ (z : ℤ). yearGives A S x +ℤ z) (yearsSum-more A S years y) ∙ sym (+ℤ-assoc (yearGives A S x) (yearsSum A S years) (yearGives A S y))
 
 -- The sum of years of rain alone, and of gauged years alone.
-rains-sum : (A S : ℕ) (rains : List ℕ) → yearsSum A S (map ofRain rains) ≡ pos (rainSum A S rains)
+rains-sum : (A S : ℕ) (rains : List Rain) → yearsSum A S (map ofRain rains) ≡ pos (rainSum A S rains)
 unfolding yearsSum rainSum
 rains-sum A S [] = refl
-rains-sum A S (mm ∷ rains) = ap (λ (z : ℤ). pos (rainYear A S mm) +ℤ z) (rains-sum A S rains)
+rains-sum A S (r ∷ rains) = ap (λ (z : ℤ). pos (rainOf A S r) +ℤ z) (rains-sum A S rains)
 
 gauges-sum : (A S : ℕ) (gauges : List Gauged) → yearsSum A S (map ofGauge gauges) ≡ gaugedSum gauges
 unfolding yearsSum gaugedSum
@@ -52,7 +51,7 @@ length-map f [] = refl
 length-map f (x ∷ xs) = ap suc (length-map f xs)
 
 -- The natural runoff of a unit with soil records and rain years is the mean of these years on these soils.
-pub rain-mean : (plots : List Plot) (rains : List ℕ) → 0 < length plots → runoffOf plots (map ofRain rains) ≡ rainRunoff plots rains
+pub rain-mean : (plots : List Plot) (rains : List Rain) → 0 < length plots → runoffOf plots (map ofRain rains) ≡ rainRunoff plots rains
 unfolding rainRunoff
 rain-mean plots rains h = λ i.
     naturalRunoff (ne-eqb (length plots) 0 (omega arith) i) (length-map ofRain rains i) (rains-sum (areaOf plots) (weightedOf plots) rains i)

@@ -6,7 +6,8 @@ use lib.Dec.{eqb}
 use lib.ListN.{length}
 use lib.IntN.{ℤ, pos, _+ℤ_}
 use Rattle.runoff.specs.Soil.{weighted}
-use Rattle.runoff.specs.Year.{rainYear, gaugedYear}
+use Rattle.runoff.specs.declared.Measure.{Measure}
+use Rattle.runoff.specs.Year.{inTenths, rainYear, gaugedYear}
 use Rattle.runoff.specs.Mean.{naturalRunoff}
 
 -- A soil record: so many hectares of a cover on a soil.
@@ -25,13 +26,22 @@ unfoldable pub weightedOf : List Plot → ℕ
 weightedOf [] = 0
 weightedOf (p ∷ ps) = weighted (p .cover) (p .soil) (p .hectares) + weightedOf ps
 
--- The sum of the rain years, of A hectares with the sum S, in 60,000,000ths.
-unfoldable pub rainSum : ℕ → ℕ → List ℕ → ℕ
+-- One year's rain as its record gives it: a number, in millimetres of a PR, in tenths of a PD.
+pub record Rain : Type 0 where
+  pub measure : Measure
+  pub depth : ℕ
+
+-- What a year's rain gives on A hectares with the sum S, in 6,000,000,000ths.
+abbrev pub rainOf : ℕ → ℕ → Rain → ℕ
+rainOf A S r = rainYear A S (inTenths (r .measure) (r .depth))
+
+-- The sum of the rain years, in 6,000,000,000ths.
+unfoldable pub rainSum : ℕ → ℕ → List Rain → ℕ
 rainSum A S [] = 0
-rainSum A S (mm ∷ years) = rainYear A S mm + rainSum A S years
+rainSum A S (r ∷ years) = rainOf A S r + rainSum A S years
 
 -- The natural runoff of a unit with rain years is the mean of its years, rounded once.
-unfoldable pub rainRunoff : List Plot → List ℕ → ℕ
+unfoldable pub rainRunoff : List Plot → List Rain → ℕ
 rainRunoff plots years = naturalRunoff false (length years) (pos (rainSum (areaOf plots) (weightedOf plots) years))
 
 -- The volumes of a gauged year.
@@ -59,14 +69,14 @@ gaugedSum (y ∷ years) = gaugedOf y +ℤ gaugedSum years
 unfoldable pub gaugedRunoff : List Gauged → ℕ
 gaugedRunoff years = naturalRunoff true (length years) (gaugedSum years)
 
--- One year of a unit: its rain in mm, or its gauged volumes.
+-- One year of a unit: its rain, or its gauged volumes.
 pub data Year : Type 0 where
-  ofRain : ℕ → Year
+  ofRain : Rain → Year
   ofGauge : Gauged → Year
 
--- What a year gives on A hectares with the sum S: a rain year in 60,000,000ths, a gauged year in thousand m³.
+-- What a year gives on A hectares with the sum S: a rain year in 6,000,000,000ths, a gauged year in thousand m³.
 abbrev pub yearGives : ℕ → ℕ → Year → ℤ
-yearGives A S (ofRain mm) = pos (rainYear A S mm)
+yearGives A S (ofRain r) = pos (rainOf A S r)
 yearGives A S (ofGauge y) = gaugedOf y
 
 -- The sum of the years.

@@ -2,7 +2,7 @@
 ghost use mathlib.Core.Path.{_≡_};
 ghost use Prim.Native.Nat.{_-_, _≤_, _<_};
 ghost use Rattle.runoff.specs.Soil.{Known, Tabled};
-ghost use Rattle.runoff.specs.Year.{RainRange, rainYear, StorageRange, gaugedYear};
+ghost use Rattle.runoff.specs.Year.{inTenths, RainRange, rainYear, StorageRange, gaugedYear};
 ghost use Rattle.runoff.specs.Mean.{Divides, MeanRange, naturalRunoff};
 ghost use Rattle.runoff.specs.Mean as means;
 
@@ -50,14 +50,31 @@ fn over(a: u64, b: u64) -> u64
     a - b
 }
 
-// A rain year of P mm gives P × 3 × S × (P − 250), and where S exceeds 15 × A also P × 4000 × (S − 15 × A), in 60,000,000ths.
-pub fn rain_year(area: u64, weighted: u64, mm: u64) -> u64
-    requires { ⌜ RainRange area weighted mm ⌝ }
-    ensures { λ r. ⌜ r ≡ rainYear area weighted mm ⌝ }
+// In what a record gives a year's rain: PR in millimetres, PD in tenths of a millimetre.
+pub enum Measure {
+    Millimetres,
+    Tenths,
+}
+
+// A year's rain in tenths: PR counts as ten times its number.
+pub fn in_tenths(measure: Measure, depth: u32) -> u64
+    ensures { λ r. ⌜ r ≡ inTenths measure depth ⌝ }
 {
-    let first = mm * 3 * weighted * over(mm, 250);
+    match measure {
+        Measure::Millimetres => 10 * (depth as u64),
+        Measure::Tenths => depth as u64,
+    }
+}
+
+// A rain year of p tenths gives p × 3 × S × (p − 2500), and where S exceeds 15 × A also p × 40,000 × (S − 15 × A), in
+// 6,000,000,000ths.
+pub fn rain_year(area: u64, weighted: u64, tenths: u64) -> u64
+    requires { ⌜ RainRange area weighted tenths ⌝ }
+    ensures { λ r. ⌜ r ≡ rainYear area weighted tenths ⌝ }
+{
+    let first = tenths * 3 * weighted * over(tenths, 2500);
     if 15 * area < weighted {
-        return first + mm * 4000 * (weighted - 15 * area);
+        return first + tenths * 40000 * (weighted - 15 * area);
     }
     first
 }
@@ -89,13 +106,13 @@ pub fn gauged_year(
 
 // The whole number nearest to num / den, halves up.
 fn rounded(num: u64, den: u64) -> u64
-    requires { ⌜ (num ≤ 30000000000000000) × (0 < den) × (den ≤ 3000000000) ⌝ }
+    requires { ⌜ (num ≤ 3000000000000000000) × (0 < den) × (den ≤ 300000000000) ⌝ }
     ensures { λ r. ⌜ r ≡ means.rounded num den ⌝ }
 {
     (2 * num + den) / (2 * den)
 }
 
-// What the sum of the years is divided by: the number of years, of rain years in 60,000,000ths.
+// What the sum of the years is divided by: the number of years, of rain years in 6,000,000,000ths.
 fn divisor(gauged: bool, years: u64) -> u64
     requires { ⌜ (0 < years) × (years ≤ 50) ⌝ }
     ensures { λ r. ⌜ Divides gauged years r ⌝ }
@@ -103,7 +120,7 @@ fn divisor(gauged: bool, years: u64) -> u64
     if gauged {
         return years;
     }
-    years * 60000000
+    years * 6000000000
 }
 
 // The natural runoff is the mean of the years, rounded once, halves up.

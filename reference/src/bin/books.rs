@@ -1,5 +1,6 @@
 //! Writes random books as files, or counts what the model makes of them.
 
+use reference::record::{mark_at, records_of, Mark, Record};
 use std::collections::BTreeMap;
 use std::path::Path;
 use std::process::ExitCode;
@@ -53,12 +54,20 @@ fn tally(seeds: std::ops::Range<u64>) {
     let mut books: BTreeMap<String, usize> = BTreeMap::new();
     let mut calls: BTreeMap<String, usize> = BTreeMap::new();
     let mut records: BTreeMap<String, usize> = BTreeMap::new();
+    let mut rain: BTreeMap<String, usize> = BTreeMap::new();
+    let mut at_tenths: BTreeMap<String, usize> = BTreeMap::new();
     let mut bytes = 0;
     for seed in seeds {
         let book = reference::random::book(seed);
         bytes += book.len();
         let printed = String::from_utf8(reference::run(&book)).expect("the output is ASCII");
         *books.entry(kind_of_book(&book)).or_insert(0) += 1;
+        for unit in rain_of_units(&book) {
+            *rain.entry(unit.to_string()).or_insert(0) += 1;
+        }
+        if let Some(number) = refused_at_tenths(&book) {
+            *at_tenths.entry(format!("refused {number:>2}")).or_insert(0) += 1;
+        }
         for line in printed.lines() {
             let words: Vec<&str> = line.split(' ').collect();
             match words.as_slice() {
@@ -81,12 +90,42 @@ fn tally(seeds: std::ops::Range<u64>) {
             "call records or lengths refused after an accepted description",
             records,
         ),
+        ("units with rain in accepted descriptions", rain),
+        ("descriptions refused at a PD", at_tenths),
     ] {
         println!("{title}: {}", counts.values().sum::<usize>());
         for (reply, count) in counts {
             println!("  {reply:<12} {count}");
         }
     }
+}
+
+/// The marks of the rain years of each unit that has any, if the description is accepted.
+fn rain_of_units(book: &[u8]) -> Vec<&'static str> {
+    let Ok(opened) = reference::book::open(book) else {
+        return Vec::new();
+    };
+    let records = records_of(&book[..opened.end]).expect("an accepted description is whole");
+    let units = records.split(|record| matches!(record, Record::Unit(_)));
+    units
+        .filter_map(|unit| {
+            let has = |mark: Mark| unit.iter().any(|record| record.mark() == mark);
+            match (has(Mark::Rain), has(Mark::Tenths)) {
+                (true, true) => Some("PR and PD"),
+                (true, false) => Some("PR"),
+                (false, true) => Some("PD"),
+                (false, false) => None,
+            }
+        })
+        .collect()
+}
+
+/// The number by which a description is refused, if its place is the offset of a PD.
+fn refused_at_tenths(book: &[u8]) -> Option<u8> {
+    let refusal = reference::book::open(book).err()?;
+    let by_offset = (1..=5).contains(&refusal.number);
+    let at_tenths = by_offset && mark_at(book, refusal.place) == Ok(Mark::Tenths);
+    at_tenths.then_some(refusal.number)
 }
 
 fn kind_of_book(book: &[u8]) -> String {

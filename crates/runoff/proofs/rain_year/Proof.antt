@@ -12,7 +12,7 @@ mul-first : tie.Need-mul-first
 mul-first c = search needs
 
 mul-first-2 : tie.Need-mul-first-2
-mul-first-2 c = omega (arith, rain-weighted (c .args .area) (c .args .weighted) (c .args .mm) (c .pre))
+mul-first-2 c = omega (arith, rain-weighted (c .args .area) (c .args .weighted) (c .args .tenths) (c .pre))
 
 over-requires : tie.Need-over-requires
 over-requires c κs = search needs
@@ -20,7 +20,7 @@ over-requires c κs = search needs
 mul-first-3 : tie.Need-mul-first-3
 mul-first-3 c =
     let x = c .before .args in
-    omega (arith, first-within (x .area) (x .weighted) (x .mm) (c .before .pre) (c .over .result) (omega arith))
+    omega (arith, first-within (x .area) (x .weighted) (x .tenths) (c .before .pre) (c .over .result) (omega arith))
 
 mul-if1 : tie.Need-mul-if1
 mul-if1 c = search needs
@@ -37,7 +37,7 @@ sub-result c = search needs
 mul-result-3 : tie.Need-mul-result-3
 mul-result-3 c =
     let x = c .before .before .args in
-    omega (arith, second-within (x .area) (x .weighted) (x .mm) (c .before .before .pre))
+    omega (arith, second-within (x .area) (x .weighted) (x .tenths) (c .before .before .pre))
 
 add-result : tie.Need-add-result
 add-result c =
@@ -45,8 +45,8 @@ add-result c =
     let r = c .before .before .pre in
     omega (
       arith,
-      first-within (x .area) (x .weighted) (x .mm) r (c .before .over .result) (omega arith),
-      second-within (x .area) (x .weighted) (x .mm) r,
+      first-within (x .area) (x .weighted) (x .tenths) r (c .before .over .result) (omega arith),
+      second-within (x .area) (x .weighted) (x .tenths) r,
     )
 
 returns : tie.Need-returns

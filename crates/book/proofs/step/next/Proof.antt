@@ -1,6 +1,6 @@
 -- `book::next` meets its contract. Assumes nothing.
 use mathlib.Core.Path.{refl, sym, _∙_}
-use Rattle.record.specs.declared.Mark.the-variants.{Un, Su, Pr, Af, Ac, Call, Unknown}
+use Rattle.record.specs.declared.Mark.the-variants.{Un, Su, Pr, Pd, Af, Ac, Call, Unknown}
 use Rattle.book.proofs.Steps.{next-ends, next-lone, next-marked}
 use borrow.Author.Needs.{needs}
 use Rattle.book.proofs.step.next.Statement.{statement}
@@ -48,20 +48,26 @@ rain-step-requires c κs = search needs
 enum-told-4 : tie.Need-enum-told-4
 enum-told-4 c = search needs
 
-gauge-step-requires : tie.Need-gauge-step-requires
-gauge-step-requires c κs = search needs
+rain-step-requires-2 : tie.Need-rain-step-requires-2
+rain-step-requires-2 c κs = search needs
 
 enum-told-5 : tie.Need-enum-told-5
 enum-told-5 c = search needs
 
-aquifer-step-requires : tie.Need-aquifer-step-requires
-aquifer-step-requires c κs = search needs
+gauge-step-requires : tie.Need-gauge-step-requires
+gauge-step-requires c κs = search needs
 
 enum-told-6 : tie.Need-enum-told-6
 enum-told-6 c = search needs
 
+aquifer-step-requires : tie.Need-aquifer-step-requires
+aquifer-step-requires c κs = search needs
+
 enum-told-7 : tie.Need-enum-told-7
 enum-told-7 c = search needs
+
+enum-told-8 : tie.Need-enum-told-8
+enum-told-8 c = search needs
 
 returns-3 : tie.Need-returns-3
 returns-3 c =
@@ -84,26 +90,32 @@ returns-5 c =
 returns-6 : tie.Need-returns-6
 returns-6 c =
     let start = c .before .before .before .before .before .before .before .before .before in
-    next-marked (start .args .s .now) (start .args .at) (start .args .u) (start .args .units) (start .args .aquifers) Af _
-    (c .before .before .before .before .before .before .before .if1 .left) (c .before .before .before .before .before .before .if2 .left) (sym (c .before .enum-told4 .given .1) ∙ c .before .before .before .mark-of .ensures) (c .gauge-step .ensures)
+    next-marked (start .args .s .now) (start .args .at) (start .args .u) (start .args .units) (start .args .aquifers) Pd _
+    (c .before .before .before .before .before .before .before .if1 .left) (c .before .before .before .before .before .before .if2 .left) (sym (c .before .enum-told4 .given .1) ∙ c .before .before .before .mark-of .ensures) (c .rain-step2 .ensures)
 
 returns-7 : tie.Need-returns-7
 returns-7 c =
     let start = c .before .before .before .before .before .before .before .before .before in
-    next-marked (start .args .s .now) (start .args .at) (start .args .u) (start .args .units) (start .args .aquifers) Ac _
-    (c .before .before .before .before .before .before .before .if1 .left) (c .before .before .before .before .before .before .if2 .left) (sym (c .before .enum-told5 .given .1) ∙ c .before .before .before .mark-of .ensures) (c .aquifer-step .ensures)
+    next-marked (start .args .s .now) (start .args .at) (start .args .u) (start .args .units) (start .args .aquifers) Af _
+    (c .before .before .before .before .before .before .before .if1 .left) (c .before .before .before .before .before .before .if2 .left) (sym (c .before .enum-told5 .given .1) ∙ c .before .before .before .mark-of .ensures) (c .gauge-step .ensures)
 
 returns-8 : tie.Need-returns-8
 returns-8 c =
-    let start = c .before .before .before .before .before .before .before .before in
-    next-marked (start .args .s .now) (start .args .at) (start .args .u) (start .args .units) (start .args .aquifers) Call _
-    (c .before .before .before .before .before .before .if1 .left) (c .before .before .before .before .before .if2 .left) (sym (c .enum-told6 .given .1) ∙ c .before .before .mark-of .ensures) refl
+    let start = c .before .before .before .before .before .before .before .before .before in
+    next-marked (start .args .s .now) (start .args .at) (start .args .u) (start .args .units) (start .args .aquifers) Ac _
+    (c .before .before .before .before .before .before .before .if1 .left) (c .before .before .before .before .before .before .if2 .left) (sym (c .before .enum-told6 .given .1) ∙ c .before .before .before .mark-of .ensures) (c .aquifer-step .ensures)
 
 returns-9 : tie.Need-returns-9
 returns-9 c =
     let start = c .before .before .before .before .before .before .before .before in
-    next-marked (start .args .s .now) (start .args .at) (start .args .u) (start .args .units) (start .args .aquifers) Unknown _
+    next-marked (start .args .s .now) (start .args .at) (start .args .u) (start .args .units) (start .args .aquifers) Call _
     (c .before .before .before .before .before .before .if1 .left) (c .before .before .before .before .before .if2 .left) (sym (c .enum-told7 .given .1) ∙ c .before .before .mark-of .ensures) refl
+
+returns-10 : tie.Need-returns-10
+returns-10 c =
+    let start = c .before .before .before .before .before .before .before .before in
+    next-marked (start .args .s .now) (start .args .at) (start .args .u) (start .args .units) (start .args .aquifers) Unknown _
+    (c .before .before .before .before .before .before .if1 .left) (c .before .before .before .before .before .if2 .left) (sym (c .enum-told8 .given .1) ∙ c .before .before .mark-of .ensures) refl
 
 pub next-spec : {M : Type 1} → statement M
 next-spec =
@@ -123,15 +135,18 @@ next-spec =
     enum-told-3
     rain-step-requires
     enum-told-4
-    gauge-step-requires
+    rain-step-requires-2
     enum-told-5
-    aquifer-step-requires
+    gauge-step-requires
     enum-told-6
+    aquifer-step-requires
     enum-told-7
+    enum-told-8
     returns-3
     returns-4
     returns-5
     returns-6
     returns-7
     returns-8
-    returns-9)
+    returns-9
+    returns-10)

@@ -34,14 +34,20 @@ spells-requires-5 c κs = search needs
 returns-5 : tie.Need-returns-5
 returns-5 c = search chain depth 16
 
-is-call-requires : tie.Need-is-call-requires
-is-call-requires c κs = search needs
+spells-requires-6 : tie.Need-spells-requires-6
+spells-requires-6 c κs = search needs
 
 returns-6 : tie.Need-returns-6
 returns-6 c = search chain depth 16
 
+is-call-requires : tie.Need-is-call-requires
+is-call-requires c κs = search needs
+
 returns-7 : tie.Need-returns-7
 returns-7 c = search chain depth 16
+
+returns-8 : tie.Need-returns-8
+returns-8 c = search chain depth 16
 
 pub mark-of-spec : {M : Type 1} → statement M
 mark-of-spec =
@@ -57,6 +63,8 @@ mark-of-spec =
     returns-4
     spells-requires-5
     returns-5
-    is-call-requires
+    spells-requires-6
     returns-6
-    returns-7)
+    is-call-requires
+    returns-7
+    returns-8)
