@@ -1,8 +1,9 @@
 -- A book without a PD is read alike by both rules, record by record. Assumes nothing.
 use Prim.Native.Nat.{ℕ, zero, suc, _+_, _-_, _<_}
 use mathlib.Core.Path.{_≡_, refl, sym, ap, subst, subst⁻¹, _∙_}
-use mathlib.Core.Bool.{Bool, true, false, cond, not}
+use mathlib.Core.Bool.{Bool, true, false, cond, not, _||_}
 use mathlib.Core.List.{List, [], _∷_}
+use lib.Dec.{eqb, leb, ltb}
 use lib.ListN.{length, getD, length-set}
 use lib.Seq.{getD-set-same, getD-set-other}
 use native.Mathlib.Omega.{arith}
@@ -14,19 +15,24 @@ use Rattle.model.specs.declared.Unit.{Unit as BasinUnit}
 use Rattle.model.specs.declared.Balance.{Balance}
 use Rattle.model.specs.Fresh.{emptyUnit}
 use Rattle.model.specs.Answers.{none, answered}
+use Rattle.runoff.specs.declared.Measure.{Measure}
+use Rattle.runoff.specs.declared.Measure.the-variants.{Millimetres}
+use Rattle.runoff.specs.Record.{ofRain, ofGauge}
+use Rattle.record.specs.declared.UnitRecord.{UnitRecord}
 use Rattle.record.specs.declared.Mark.{Mark}
 use Rattle.record.specs.declared.Mark.the-variants.{Un, Su, Pr, Pd, Af, Ac, Call, Unknown}
 use Rattle.record.specs.Bytes.{bits8}
+use Rattle.record.specs.Fault.{rainFault}
 use Rattle.record.specs.Record.{spells, isCall, markOf}
 use Rattle.record.specs.Described.{DescribedUnit, addPlot, addYear, noUnit, unitGiving, unitOf}
 use Rattle.record.specs.Entries.{Entry, unitEntry, soilEntry, yearEntry, aquiferEntry, EntryAt, noEntry, failing, stands, wholeEntry, entryMarked, entryAt}
-use Rattle.book.specs.Reading.{Description, lastUnit, balanceOf, Outcome, read, refused, endedBy, clear, faulty, entryVerdict, withUnit, withLast, withEntry, readingFrom, reading, openedBy, opened}
+use Rattle.book.specs.Reading.{Description, lastUnit, lastSums, balanceOf, Outcome, read, refused, endedBy, clear, faulty, unlessFaulty, entryVerdict, withUnit, withLast, withEntry, readingFrom, reading, openedBy, opened}
 use Rattle.book.proofs.Entries.{Begun, standing, by-record, reads-end, reads-failing, reads-faulty, reads-clear}
 use Rattle.book.proofs.Promises.{through-end}
 use Rattle.book.proofs.Growing.{Good, good-start, good-entry, snoc-length, snoc-before, snoc-last}
 use Rattle.listing.specs.Listing.{printedBy, printed}
 use Rattle.millimetres.specs.Rule.{mmRunoff}
-use Rattle.millimetres.specs.Opening.{isPd, mmEntryAt, mmBalance, mmReadingFrom, mmOpened, mmPrinted, freeFrom, withoutPd}
+use Rattle.millimetres.specs.Opening.{isPd, mmEntryAt, mmRainFault, mmVerdict, mmBalance, mmReadingFrom, mmOpened, mmPrinted, freeFrom, withoutPd}
 use Rattle.millimetres.proofs.Units.{InMm, in-mm-more, same-runoff}
 
 -- The rain years of every unit are in millimetres.
@@ -141,6 +147,27 @@ same-balance d good free =
           given = 0;
         }
 
+-- Two tests of one number, together and one after the other.
+either-test : (a b : Bool) (n : ℕ) → cond (a || b) n 0 ≡ cond a n (cond b n 0)
+either-test true b n = refl
+either-test false b n = refl
+
+-- A PR is refused alike, and so is every record but a PD.
+same-rain : (units aquifers : ℕ) (u : UnitRecord) (m : Measure) (mm : ℕ) → m ≡ Millimetres → rainFault units aquifers u m mm ≡ mmRainFault units aquifers u mm
+same-rain units aquifers u m mm e =
+    ap (λ (x : Measure). rainFault units aquifers u x mm) e
+    ∙ ap (λ (n : ℕ). cond (ltb 0 aquifers) 3 (cond (eqb units 0) 3 (cond (eqb (u .soils) 0) 3 (cond (leb 50 (u .years)) 4 n))))
+    (either-test (ltb mm 350) (ltb 2150 mm) 5)
+
+same-verdict : (d : Description) (e : Entry) (at : ℕ) → FreeEntry e → mmVerdict d e at ≡ entryVerdict d e at
+same-verdict d (unitEntry u) at f = refl
+same-verdict d (soilEntry p) at f = refl
+same-verdict d (yearEntry (ofRain r)) at f =
+    ap (λ (n : ℕ). unlessFaulty n at clear)
+    (sym (same-rain (length (d .units)) (length (d .aquifers)) (lastSums d) (r .measure) (r .depth) (f .0)))
+same-verdict d (yearEntry (ofGauge y)) at f = refl
+same-verdict d (aquiferEntry a) at f = refl
+
 -- One record more of reading by document 01.
 module _ (f : ℕ) (s : List ℕ) (at : ℕ) (d : Description) where
   mm-end : mmEntryAt s at ≡ noEntry → mmReadingFrom (suc f) s at d ≡ endedBy (mmBalance d) d at
@@ -151,12 +178,12 @@ module _ (f : ℕ) (s : List ℕ) (at : ℕ) (d : Description) where
   unfolding mmReadingFrom
   mm-failing n h = rw (h, mmReadingFrom)
 
-  mm-faulty : (e : Entry) (to n p : ℕ) → mmEntryAt s at ≡ stands e to → entryVerdict d e at ≡ faulty n p
+  mm-faulty : (e : Entry) (to n p : ℕ) → mmEntryAt s at ≡ stands e to → mmVerdict d e at ≡ faulty n p
       → mmReadingFrom (suc f) s at d ≡ refused n p
   unfolding mmReadingFrom
   mm-faulty e to n p h v = rw (h, v, mmReadingFrom)
 
-  mm-clear : (e : Entry) (to : ℕ) → mmEntryAt s at ≡ stands e to → entryVerdict d e at ≡ clear
+  mm-clear : (e : Entry) (to : ℕ) → mmEntryAt s at ≡ stands e to → mmVerdict d e at ≡ clear
       → mmReadingFrom (suc f) s at d ≡ mmReadingFrom f s to (withEntry d e)
   unfolding mmReadingFrom
   mm-clear e to h v = rw (h, v, mmReadingFrom)
@@ -203,14 +230,15 @@ reads-alike (suc f) s at d good free h =
     })
     (λ e to n p q v.
     record {
-      same = reads-faulty f s at d e to n p q v ∙ sym (mm-faulty f s at d e to n p (entry ∙ q) v);
+      same = reads-faulty f s at d e to n p q v ∙ sym (mm-faulty f s at d e to n p (entry ∙ q) (same-verdict d e at (free-entry s at none e to q) ∙ v));
       reached = subst⁻¹ Reached (reads-faulty f s at d e to n p q v) tt;
     })
     (λ e to q v.
     let b = standing s at e to q .begun in
-    let rest = reads-alike f s to (withEntry d e) (good-entry d good e at v b) (keeps-free d free e b (free-entry s at none e to q)) (no-pd-after f s at e to h q) in
+    let g = free-entry s at none e to q in
+    let rest = reads-alike f s to (withEntry d e) (good-entry d good e at v b) (keeps-free d free e b g) (no-pd-after f s at e to h q) in
     record {
-      same = reads-clear f s at d e to q v ∙ rest .same ∙ sym (mm-clear f s at d e to (entry ∙ q) v);
+      same = reads-clear f s at d e to q v ∙ rest .same ∙ sym (mm-clear f s at d e to (entry ∙ q) (same-verdict d e at g ∙ v));
       reached = subst⁻¹ Reached (reads-clear f s at d e to q v) (rest .reached);
     })
 

@@ -46,7 +46,7 @@ unfolding yearsSum mmRainSum
 tenfold-sum A S [] f = refl
 tenfold-sum A S (r ∷ rains) f =
     let year : rainYear A S (inTenths (r .measure) (r .depth)) ≡ 100 * mmYear A S (r .depth)
-        = ap (λ (m : Measure). rainYear A S (inTenths m (r .depth))) (f .0) ∙ tenfold-year A S (r .depth) in
+    = ap (λ (m : Measure). rainYear A S (inTenths m (r .depth))) (f .0) ∙ tenfold-year A S (r .depth) in
     (λ i. pos (year i) +ℤ tenfold-sum A S rains (f .1) i) ∙ ap pos (omega arith)
 
 -- Gauged years give the same by both.

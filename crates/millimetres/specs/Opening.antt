@@ -2,13 +2,16 @@
 use Prim.Native.Nat.{ℕ, zero, suc, _+_}
 use mathlib.Core.Bool.{Bool, true, cond, not, _&&_}
 use mathlib.Core.List.{List, []}
+use lib.Dec.{eqb, leb, ltb}
 use lib.ListN.{length}
 use Rattle.model.specs.declared.Balance.{Balance}
+use Rattle.runoff.specs.Record.{ofRain, ofGauge}
+use Rattle.record.specs.declared.UnitRecord.{UnitRecord}
 use Rattle.record.specs.Bytes.{bits8}
 use Rattle.record.specs.Record.{spells}
-use Rattle.record.specs.Entries.{EntryAt, noEntry, failing, stands, entryAt}
+use Rattle.record.specs.Entries.{Entry, unitEntry, soilEntry, yearEntry, aquiferEntry, EntryAt, noEntry, failing, stands, entryAt}
 use Rattle.book.specs.declared.Opened.{Opened}
-use Rattle.book.specs.Reading.{Description, balanceBy, Outcome, refused, endedBy, entryVerdict, clear, faulty, withEntry, openedBy}
+use Rattle.book.specs.Reading.{Description, lastSums, balanceBy, Outcome, refused, endedBy, Verdict, clear, faulty, unlessFaulty, entryVerdict, withEntry, openedBy}
 use Rattle.listing.specs.Listing.{printedBy}
 use Rattle.millimetres.specs.Rule.{mmUnit}
 
@@ -20,8 +23,26 @@ isPd s at = spells (bits8 s at) (bits8 s (at + 1)) 80 68
 abbrev pub mmEntryAt : List ℕ → ℕ → EntryAt
 mmEntryAt s at = cond (isPd s at) (failing 2) (entryAt s at)
 
--- Reading a description, record by record, and opening it. The rain rule is in the balance alone, and so in 10 at the end: no refusal of a
--- record looks at what rain years give, 9 being of gauged years.
+-- PR: 3 after AC, before any UN, without SU; 4 a 51st year; 5 rain below 350 or above 2150 mm.
+abbrev pub mmRainFault : ℕ → ℕ → UnitRecord → ℕ → ℕ
+mmRainFault units aquifers u mm =
+    cond (ltb 0 aquifers) 3
+    (cond (eqb units 0) 3
+    (cond (eqb (u .soils) 0) 3
+    (cond (leb 50 (u .years)) 4
+    (cond (ltb mm 350) 5
+    (cond (ltb 2150 mm) 5 0)))))
+
+-- A record is refused as the program refuses it, a PR as above. No refusal of a record looks at what rain years give, 9 being of gauged years.
+abbrev pub mmVerdict : Description → Entry → ℕ → Verdict
+mmVerdict d (unitEntry u) at = entryVerdict d (unitEntry u) at
+mmVerdict d (soilEntry p) at = entryVerdict d (soilEntry p) at
+mmVerdict d (yearEntry (ofRain r)) at =
+    unlessFaulty (mmRainFault (length (d .units)) (length (d .aquifers)) (lastSums d) (r .depth)) at clear
+mmVerdict d (yearEntry (ofGauge y)) at = entryVerdict d (yearEntry (ofGauge y)) at
+mmVerdict d (aquiferEntry a) at = entryVerdict d (aquiferEntry a) at
+
+-- Reading a description, record by record, and opening it. The rain rule is in the balance alone, and so in 10 at the end.
 abbrev pub mmBalance : Description → Balance
 mmBalance d = balanceBy mmUnit d
 
@@ -31,7 +52,7 @@ mmReadingFrom (suc records) s at d =
     elim (mmEntryAt s at) [
       | noEntry ↦ endedBy (mmBalance d) d at
       | failing n ↦ refused n at
-      | stands e to ↦ elim (entryVerdict d e at) [ clear ↦ mmReadingFrom records s to (withEntry d e) | faulty n p ↦ refused n p ]
+      | stands e to ↦ elim (mmVerdict d e at) [ clear ↦ mmReadingFrom records s to (withEntry d e) | faulty n p ↦ refused n p ]
     ]
 
 abbrev pub mmOpened : List ℕ → Opened
