@@ -215,6 +215,16 @@ impl Register {
         register
     }
 
+    /// The same with withdrawals from aquifers that return to units, but for title 2.
+    pub fn filled_returning(units: usize, titles: usize) -> Register {
+        let mut register = Register::new(Tree::Balanced, units);
+        register.grant_return_in_use();
+        while register.state.title_count < titles {
+            register.grant(register.small_returning(register.state.title_count));
+        }
+        register
+    }
+
     fn write(&mut self, call: Call) {
         self.book.extend(Record::Call(call).bytes());
         self.calls += 1;
@@ -237,7 +247,7 @@ impl Register {
         assert!(matches!(reply, Reply::Cancelled(_)), "{reply:?}");
     }
 
-    /// Grants titles of the four kinds in turn until so many numbers are given.
+    /// Grants GU, GA, TU and TA in turn until so many numbers are given.
     pub fn fill(&mut self, titles: usize) {
         while self.state.title_count < titles {
             self.grant(self.small_grant(self.state.title_count));
@@ -270,6 +280,17 @@ impl Register {
         }
     }
 
+    /// A withdrawal from an aquifer with a return that is given. Units 1 and 2 are left alone.
+    pub fn small_returning(&self, turn: usize) -> Call {
+        let units = self.state.unit_count;
+        Call::PumpReturning {
+            aquifer: (1 + turn * 5 % AQUIFERS) as u8,
+            unit: (3 + turn * 7 % (units - 2)) as u8,
+            usage: (1 + turn % 7) as u8,
+            volume: (2 + turn % 5) as u32,
+        }
+    }
+
     /// Brings water to unit 2 as title 1, and withdraws nearly all that unit 2 has as title 2.
     pub fn grant_in_use(&mut self) {
         self.grant(Call::Bring {
@@ -277,6 +298,21 @@ impl Register {
             unit: 2,
             volume: 50,
         });
+        self.spend_in_unit_2();
+    }
+
+    /// Returns water to unit 2 as title 1, and withdraws nearly all that unit 2 has as title 2.
+    fn grant_return_in_use(&mut self) {
+        self.grant(Call::PumpReturning {
+            aquifer: 1,
+            unit: 2,
+            usage: 6,
+            volume: 50,
+        });
+        self.spend_in_unit_2();
+    }
+
+    fn spend_in_unit_2(&mut self) {
         let flow = self.flow(2);
         self.grant(Call::Withdraw {
             unit: 2,
@@ -300,9 +336,10 @@ impl Register {
         ends
     }
 
-    /// How many calls of 8 bytes the book has room for.
-    pub fn room(&self) -> usize {
-        (LONGEST_BOOK - self.book.len()) / 8
+    /// How many calls like these the book has room for, none of them counted as less than 8 bytes.
+    pub fn room(&self, calls: &[Call]) -> usize {
+        let lengths = calls.iter().map(|call| Record::Call(*call).bytes().len());
+        (LONGEST_BOOK - self.book.len()) / lengths.fold(8, usize::max)
     }
 
     // Calls that are refused
@@ -340,6 +377,16 @@ impl Register {
     pub fn without_recharge(&self) -> Call {
         Call::Pump {
             aquifer: 7,
+            volume: 1_000_000,
+        }
+    }
+
+    /// 17: the aquifer hasn't so much, whatever would come back.
+    pub fn returning_without_recharge(&self) -> Call {
+        Call::PumpReturning {
+            aquifer: 7,
+            unit: 3,
+            usage: 6,
             volume: 1_000_000,
         }
     }

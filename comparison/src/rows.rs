@@ -94,7 +94,7 @@ impl Row {
         replies: &[&'static str],
     ) -> Row {
         let before = register.calls;
-        let times = register.room() / calls.len() * calls.len();
+        let times = register.room(calls) / calls.len() * calls.len();
         let lengths = register.repeat(calls, times);
         Row {
             name: name.to_string(),
@@ -264,8 +264,28 @@ fn of_call(
     call: fn(&Register) -> Call,
     reply: &'static str,
 ) -> Planned {
+    repeated_on(Register::filled, name, meaning, call, reply)
+}
+
+/// The same on a register of withdrawals from aquifers that return to units.
+fn of_call_returning(
+    name: &str,
+    meaning: &'static str,
+    call: fn(&Register) -> Call,
+    reply: &'static str,
+) -> Planned {
+    repeated_on(Register::filled_returning, name, meaning, call, reply)
+}
+
+fn repeated_on(
+    filled: fn(usize, usize) -> Register,
+    name: &str,
+    meaning: &'static str,
+    call: fn(&Register) -> Call,
+    reply: &'static str,
+) -> Planned {
     planned(name, move |name| {
-        let register = Register::filled(UNITS, 255);
+        let register = filled(UNITS, 255);
         let call = call(&register);
         Row::repeated(name, meaning, register, &[call], &[reply])
     })
@@ -314,6 +334,20 @@ pub fn calls() -> Vec<Planned> {
         ),
         planned("calls-15", full),
         planned("calls-given-cancelled", given_and_cancelled),
+        of_call_returning(
+            "calls-17-returning",
+            "GW refused at 17 by an aquifer's availability, 255 titles nearly all GW",
+            Register::returning_without_recharge,
+            "refused 17",
+        ),
+        of_call_returning(
+            "calls-20-returning",
+            "a cancellation of GW refused at 20, 255 titles nearly all GW",
+            Register::in_use,
+            "refused 20",
+        ),
+        planned("calls-15-returning", full_returning),
+        planned("calls-given-cancelled-returning", returning_and_cancelled),
     ]
 }
 
@@ -321,23 +355,53 @@ pub fn calls() -> Vec<Planned> {
 fn full(name: &str) -> Row {
     let register = Register::filled(UNITS, 256);
     let calls: Vec<Call> = (0..4).map(|turn| register.small_grant(turn)).collect();
-    let meaning = "grants of each kind refused at 15, 256 titles in force";
+    let meaning = "GU, GA, TU and TA refused at 15, 256 titles in force";
     Row::repeated(name, meaning, register, &calls, &["refused 15"])
 }
 
-/// Grants of each kind, each cancelled at once, on a register with 16 titles in force.
+/// GW on a register whose 256 numbers are given, nearly all to GW.
+fn full_returning(name: &str) -> Row {
+    let register = Register::filled_returning(UNITS, 256);
+    let calls: Vec<Call> = (0..4).map(|turn| register.small_returning(turn)).collect();
+    let meaning = "GW refused at 15, 256 titles nearly all GW";
+    Row::repeated(name, meaning, register, &calls, &["refused 15"])
+}
+
+/// GU, GA, TU and TA, each cancelled at once, on a register with 16 titles in force.
 fn given_and_cancelled(name: &str) -> Row {
-    let mut register = Register::filled(UNITS, 16);
+    let meaning = "GU, GA, TU and TA given and cancelled, 16 titles in force";
+    cancelled_at_once(
+        name,
+        meaning,
+        Register::filled(UNITS, 16),
+        Register::small_grant,
+    )
+}
+
+/// GW, each cancelled at once, on a register with 16 titles in force.
+fn returning_and_cancelled(name: &str) -> Row {
+    let meaning = "GW given and cancelled, 16 titles nearly all GW";
+    let register = Register::filled_returning(UNITS, 16);
+    cancelled_at_once(name, meaning, register, Register::small_returning)
+}
+
+/// A row of 240 grants, each cancelled at once.
+fn cancelled_at_once(
+    name: &str,
+    meaning: &str,
+    mut register: Register,
+    grant: fn(&Register, usize) -> Call,
+) -> Row {
     let start = register.book.len();
     let before = register.calls;
     for turn in 0..240 {
-        register.grant(register.small_grant(turn));
+        register.grant(grant(&register, turn));
         register.cancel_last();
     }
     let lengths = lengths_of_calls(&register.book, start);
     Row {
         name: name.to_string(),
-        meaning: "grants of each kind given and cancelled, 16 titles in force".to_string(),
+        meaning: meaning.to_string(),
         book: register.book,
         most: lengths.len() - 1,
         counted: (0, 80),
@@ -349,8 +413,8 @@ fn given_and_cancelled(name: &str) -> Row {
     }
 }
 
-/// All calls of one book: 255 numbers given, three of them cancelled again, refused calls of every
-/// kind, the last number, and refused calls of a full register.
+/// All calls of one book, GU, GA, TU, TA and CA: 255 numbers given, three of them cancelled again,
+/// refused calls, the last number, and refused calls of a full register.
 fn whole_book(name: &str) -> Row {
     let mut register = Register::new(Tree::Balanced, UNITS);
     let start = register.book.len();
@@ -361,13 +425,13 @@ fn whole_book(name: &str) -> Row {
     }
     register.fill(255);
     let (calls, _) = mixture(&register);
-    register.repeat(&calls, register.room() / 2);
+    register.repeat(&calls, register.room(&calls) / 2);
     register.grant(register.small_grant(0));
     let full: Vec<Call> = (0..4)
         .map(|turn| register.small_grant(turn))
         .chain([register.not_in_force(), register.in_use()])
         .collect();
-    register.repeat(&full, register.room());
+    register.repeat(&full, register.room(&full));
     let lengths = lengths_of_calls(&register.book, start);
     let count = lengths.len() - 1;
     Row {

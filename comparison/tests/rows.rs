@@ -1,6 +1,8 @@
 //! The books for timing do what their rows say.
 
+use comparison::plain;
 use comparison::rows::{self, Row, Work, CONTESTANTS};
+use reference::register::Title;
 use reference::LONGEST_BOOK;
 
 fn all() -> Vec<Row> {
@@ -64,6 +66,23 @@ fn the_mixed_book_has_every_kind_of_reply() {
         "refused 20\n",
     ] {
         assert!(text.contains(reply), "{reply}");
+    }
+}
+
+#[test]
+fn the_returning_rows_have_such_titles_but_one() {
+    let rows: Vec<Row> = all()
+        .into_iter()
+        .filter(|row| row.name.ends_with("-returning"))
+        .collect();
+    assert_eq!(rows.len(), 4);
+    for row in rows {
+        let Ok(ran) = plain::run(&row.book) else {
+            panic!("{}", row.name);
+        };
+        let others = ran.balance.titles.iter();
+        let others = others.filter(|r| !matches!(r.title, Title::ReturningWithdrawal { .. }));
+        assert_eq!(others.count(), 1, "{}", row.name);
     }
 }
 

@@ -1,5 +1,7 @@
 //! Named books at the limits of the paper and at the places where each refusal can arise.
 
+mod returning;
+
 use crate::record::{self, Mark, Record};
 use crate::{random, text, LONGEST_BOOK};
 
@@ -57,6 +59,7 @@ pub fn books() -> Vec<Named> {
     water_in_use(&mut list);
     title_numbers(&mut list);
     cut_calls(&mut list);
+    returning::books(&mut list);
     mixed_calls(&mut list);
     lengths(&mut list);
     list.0
@@ -730,11 +733,12 @@ const DESCRIPTION_MARKS: [(Mark, &str); 6] = [
     (Mark::Aquifer, "aquifer"),
 ];
 
-const CALL_MARKS: [(Mark, &str); 5] = [
+const CALL_MARKS: [(Mark, &str); 6] = [
     (Mark::Withdraw, "withdraw"),
     (Mark::Pump, "pump"),
     (Mark::Transfer, "transfer"),
     (Mark::Bring, "bring"),
+    (Mark::PumpReturning, "returning"),
     (Mark::Cancel, "cancel"),
 ];
 
@@ -799,11 +803,15 @@ const BASIN: &str = "unit downstream=3; soil cover=8 soil=1 hectares=10000; rain
     aquifer natural=600 pumped=100 committed=200 extraction=100";
 
 /// One grant of each kind.
-const GRANTS: [(&str, &str); 4] = [
+const GRANTS: [(&str, &str); 5] = [
     ("withdraw", "withdraw unit=1 use=1 volume=99"),
     ("pump", "pump aquifer=1 volume=33"),
     ("transfer", "transfer from=2 to=1 volume=55"),
     ("bring", "bring aquifer=1 unit=2 volume=77"),
+    (
+        "returning",
+        "pump-returning aquifer=1 unit=3 use=3 volume=88",
+    ),
 ];
 
 /// Numbers that are given, cancelled, never given, and at the ends of the field.
@@ -823,13 +831,22 @@ fn cancellations(list: &mut List) {
         );
         list.text(&format!("cancel-{word}-after-refusal"), &refused);
     }
-    let all: Vec<&str> = GRANTS.iter().map(|(_, grant)| *grant).collect();
-    let grants = all.join("; ");
+    // The fifth kind is in the books `cancel-all-five-...`.
     for order in [[1, 2, 3, 4], [4, 3, 2, 1], [2, 4, 1, 3], [3, 1, 4, 2]] {
-        let cancels: Vec<String> = order.iter().map(|n| format!("cancel {n}")).collect();
-        let text = format!("{BASIN}; {grants}; {}; {grants}", cancels.join("; "));
-        list.text(&format!("cancel-all-from-{}", order[0]), &text);
+        cancelled_in_order(list, "cancel-all-from", &order);
     }
+}
+
+/// The first kinds of titles granted, cancelled in an order, and granted again.
+fn cancelled_in_order(list: &mut List, name: &str, order: &[usize]) {
+    let grants: Vec<&str> = GRANTS[..order.len()]
+        .iter()
+        .map(|(_, grant)| *grant)
+        .collect();
+    let grants = grants.join("; ");
+    let cancels: Vec<String> = order.iter().map(|n| format!("cancel {n}")).collect();
+    let text = format!("{BASIN}; {grants}; {}; {grants}", cancels.join("; "));
+    list.text(&format!("{name}-{}", order[0]), &text);
 }
 
 /// A cancelled return is the one that was given, whatever was granted after it.

@@ -359,6 +359,16 @@ impl Sums<'_> {
                 *self.aquifers.get_mut(aquifer.wrapping_sub(1))? += in_range(volume)?;
                 self.units.get_mut(unit.wrapping_sub(1))?.imports += volume;
             }
+            Title::ReturningWithdrawal {
+                aquifer,
+                unit,
+                usage,
+                volume,
+            } => {
+                let percent = RETURN_PERCENT.get(usage.wrapping_sub(1))?;
+                *self.aquifers.get_mut(aquifer.wrapping_sub(1))? += in_range(volume)?;
+                self.units.get_mut(unit.wrapping_sub(1))?.returns += volume * percent / 100;
+            }
         }
         Some(())
     }
@@ -446,6 +456,17 @@ fn title_of(call: &Call) -> Result<Title, usize> {
             unit: usize::from(unit),
             volume: i64::from(volume),
         }),
+        Call::PumpReturning {
+            aquifer,
+            unit,
+            usage,
+            volume,
+        } => Ok(Title::ReturningWithdrawal {
+            aquifer: usize::from(aquifer),
+            unit: usize::from(unit),
+            usage: usize::from(usage),
+            volume: i64::from(volume),
+        }),
         Call::Cancel { title } => Err(usize::from(title)),
     }
 }
@@ -510,6 +531,15 @@ fn put(state: &mut State, title: &Title, sign: i64) {
             state.aquifers[aquifer - 1].extraction += sign * volume;
             state.units[unit - 1].imports += sign * volume;
         }
+        Title::ReturningWithdrawal {
+            aquifer,
+            unit,
+            usage,
+            volume,
+        } => {
+            state.aquifers[aquifer - 1].extraction += sign * volume;
+            state.units[unit - 1].returns += sign * return_of(usage, volume);
+        }
     }
 }
 
@@ -547,7 +577,8 @@ fn place_missing(state: &State, title: &Title) -> bool {
         Title::UnitWithdrawal { unit, .. } => !state.has_unit(unit),
         Title::AquiferWithdrawal { aquifer, .. } => !state.has_aquifer(aquifer),
         Title::UnitTransfer { from, to, .. } => !state.has_unit(from) || !state.has_unit(to),
-        Title::AquiferTransfer { aquifer, unit, .. } => {
+        Title::AquiferTransfer { aquifer, unit, .. }
+        | Title::ReturningWithdrawal { aquifer, unit, .. } => {
             !state.has_aquifer(aquifer) || !state.has_unit(unit)
         }
     }
@@ -555,7 +586,9 @@ fn place_missing(state: &State, title: &Title) -> bool {
 
 fn use_missing(title: &Title) -> bool {
     match title {
-        Title::UnitWithdrawal { usage, .. } => !(1..=RETURN_PERCENT.len()).contains(usage),
+        Title::UnitWithdrawal { usage, .. } | Title::ReturningWithdrawal { usage, .. } => {
+            !(1..=RETURN_PERCENT.len()).contains(usage)
+        }
         _ => false,
     }
 }
@@ -594,7 +627,10 @@ fn entry_too_large(state: &State, title: &Title) -> bool {
         Title::UnitWithdrawal { unit, .. } => unit_over(unit),
         Title::AquiferWithdrawal { aquifer, .. } => aquifer_over(aquifer),
         Title::UnitTransfer { from, to, .. } => unit_over(from) || unit_over(to),
-        Title::AquiferTransfer { aquifer, unit, .. } => aquifer_over(aquifer) || unit_over(unit),
+        Title::AquiferTransfer { aquifer, unit, .. }
+        | Title::ReturningWithdrawal { aquifer, unit, .. } => {
+            aquifer_over(aquifer) || unit_over(unit)
+        }
     }
 }
 
@@ -603,7 +639,9 @@ fn lacks_water(state: &State, title: &Title) -> bool {
     match *title {
         Title::UnitWithdrawal { unit, .. } => outlet_basin_lacks_water(state.units(), unit),
         Title::UnitTransfer { from, .. } => outlet_basin_lacks_water(state.units(), from),
-        Title::AquiferWithdrawal { aquifer, .. } | Title::AquiferTransfer { aquifer, .. } => {
+        Title::AquiferWithdrawal { aquifer, .. }
+        | Title::AquiferTransfer { aquifer, .. }
+        | Title::ReturningWithdrawal { aquifer, .. } => {
             aquifer_availability(&state.aquifers[aquifer - 1]) < 0
         }
     }
@@ -747,7 +785,7 @@ impl Reading<'_> {
                 b"SU" => self.area(body(book, at)?, at)?,
                 b"UN" => self.unit(body(book, at)?, at)?,
                 b"AC" => self.aquifer(body(book, at)?, at)?,
-                b"GU" | b"GA" | b"TU" | b"TA" | b"CA" => break,
+                b"GU" | b"GA" | b"TU" | b"TA" | b"GW" | b"CA" => break,
                 _ => return refuse(2, at),
             };
         }
@@ -970,6 +1008,7 @@ pub fn next_call(book: &[u8], at: usize) -> Result<(Call, usize), Refusal> {
         b"GA" => (pumping(body(book, at)?), at + 7),
         b"TU" => (transfer(body(book, at)?), at + 8),
         b"TA" => (bringing(body(book, at)?), at + 8),
+        b"GW" => (returning(body(book, at)?), at + 9),
         b"CA" => (cancellation(body(book, at)?), at + 4),
         _ => return refuse(2, at),
     })
@@ -1003,6 +1042,15 @@ fn bringing(body: &[u8; 6]) -> Call {
         aquifer: body[0],
         unit: body[1],
         volume: word(body, 2),
+    }
+}
+
+fn returning(body: &[u8; 7]) -> Call {
+    Call::PumpReturning {
+        aquifer: body[0],
+        unit: body[1],
+        usage: body[2],
+        volume: word(body, 3),
     }
 }
 

@@ -7,7 +7,7 @@ use crate::basin::{self, Unit};
 use crate::book::{self, FEWEST_YEARS, LARGEST_GAUGED, MOST_AREAS, MOST_HECTARES, MOST_YEARS};
 use crate::book::{LEAST_TENTHS, MOST_TENTHS};
 use crate::record::{self, AquiferRecord, Call, GaugeRecord, Record, SoilRecord, UnitRecord};
-use crate::register::{self, Balance, Reply};
+use crate::register::{self, Balance, Entry, Reply, RETURN_PERCENT};
 use crate::runoff;
 use crate::LONGEST_BOOK;
 
@@ -876,6 +876,7 @@ fn calls(s: &mut Source, balance: Balance) -> Vec<Call> {
         match s.below(100) {
             0..=5 if !modest => office.bring_and_spend(s),
             6..=9 if !modest => office.transfer_and_spend(s),
+            10..=15 if !modest => office.return_and_spend(s),
             _ => {
                 let call = match modest {
                     true => office.modest_call(s),
@@ -914,29 +915,75 @@ impl Office {
         number(s, self.balance.aquifers.len())
     }
 
+    /// Where the titles in force go, one entry for each addition.
+    fn entries_of_titles(&self) -> Vec<Entry> {
+        let additions = register::in_force(&self.balance).flat_map(|title| title.additions());
+        additions.map(|(entry, _)| entry).collect()
+    }
+
+    /// An aquifer that a title in force draws on, or any.
+    fn shared_aquifer(&self, s: &mut Source) -> u8 {
+        let entries = self.entries_of_titles();
+        let drawn: Vec<usize> = entries.into_iter().filter_map(aquifer_of_entry).collect();
+        match s.chance(40) && !drawn.is_empty() {
+            true => s.pick(&drawn) as u8,
+            false => self.aquifer(s),
+        }
+    }
+
+    /// A unit for a return: one that a title in force names, one of a basin that none names, or any.
+    fn return_unit(&self, s: &mut Source) -> u8 {
+        let entries = self.entries_of_titles();
+        let named: Vec<usize> = entries.into_iter().filter_map(unit_of_entry).collect();
+        let wanted = match s.below(10) {
+            0..=3 => named,
+            4..=5 => self.units_of_other_basins(&named),
+            _ => Vec::new(),
+        };
+        match wanted.is_empty() {
+            true => self.unit(s),
+            false => s.pick(&wanted) as u8,
+        }
+    }
+
+    /// The units whose outlet is that of none of the units named.
+    fn units_of_other_basins(&self, named: &[usize]) -> Vec<usize> {
+        let units = &self.balance.units;
+        let outlets: Vec<usize> = named.iter().map(|u| basin::outlet(units, *u)).collect();
+        (1..=units.len())
+            .filter(|unit| !outlets.contains(&basin::outlet(units, *unit)))
+            .collect()
+    }
+
     fn any_call(&self, s: &mut Source, modest: bool) -> Call {
         let cancel = match modest {
             true => 2,
             false => 20,
         };
         let kind = match s.below(100 + cancel) {
-            0..=34 => Call::Withdraw {
+            0..=27 => Call::Withdraw {
                 unit: self.unit(s),
                 usage: usage(s),
                 volume: 0,
             },
-            35..=54 => Call::Pump {
+            28..=41 => Call::Pump {
                 aquifer: self.aquifer(s),
                 volume: 0,
             },
-            55..=77 => Call::Transfer {
+            42..=59 => Call::Transfer {
                 from: self.unit(s),
                 to: self.unit(s),
                 volume: 0,
             },
-            78..=99 => Call::Bring {
+            60..=75 => Call::Bring {
                 aquifer: self.aquifer(s),
                 unit: self.unit(s),
+                volume: 0,
+            },
+            76..=99 => Call::PumpReturning {
+                aquifer: self.shared_aquifer(s),
+                unit: self.return_unit(s),
+                usage: usage(s),
                 volume: 0,
             },
             _ => Call::Cancel {
@@ -981,6 +1028,16 @@ impl Office {
             return s.between(1, 3) as u32;
         }
         let water = self.water(kind).clamp(0, 2 * TERM);
+        if let Call::PumpReturning { unit, usage, .. } = *kind {
+            match s.below(20) {
+                0 => return s.between(1, 7) as u32,
+                1..=3 => {
+                    let filling = self.filling_returns(unit, usage) + s.between(-1, 1);
+                    return filling.clamp(0, water) as u32;
+                }
+                _ => {}
+            }
+        }
         let volume = match s.below(40) {
             0 => 0,
             1 => TERM,
@@ -994,6 +1051,16 @@ impl Office {
             _ => s.between(0, TERM),
         };
         volume.max(0) as u32
+    }
+
+    /// The volume whose return fills the returns of a unit, 0 if there is no such unit or use.
+    fn filling_returns(&self, unit: u8, usage: u8) -> i64 {
+        let unit = self.balance.units.get(usize::from(unit).wrapping_sub(1));
+        let percent = RETURN_PERCENT.get(usize::from(usage).wrapping_sub(1));
+        match (unit, percent) {
+            (Some(unit), Some(percent)) => (TERM - unit.returns) * 100 / percent,
+            _ => 0,
+        }
     }
 
     /// The availability of the unit or aquifer that a call draws on, 0 if there is none.
@@ -1011,7 +1078,9 @@ impl Office {
         match *call {
             Call::Withdraw { unit: number, .. } => unit(number),
             Call::Transfer { from, .. } => unit(from),
-            Call::Pump { aquifer: a, .. } | Call::Bring { aquifer: a, .. } => aquifer(a),
+            Call::Pump { aquifer: a, .. }
+            | Call::Bring { aquifer: a, .. }
+            | Call::PumpReturning { aquifer: a, .. } => aquifer(a),
             Call::Cancel { .. } => 0,
         }
     }
@@ -1051,30 +1120,97 @@ impl Office {
         self.spend(s, &kind, to);
     }
 
+    /// Returns water of an aquifer to a unit, spends it, and cancels what returned it.
+    fn return_and_spend(&mut self, s: &mut Source) {
+        let unit = self.return_unit(s);
+        let kind = Call::PumpReturning {
+            aquifer: self.shared_aquifer(s),
+            unit,
+            usage: s.pick(&[2, 3, 6, 7]),
+            volume: 0,
+        };
+        self.spend(s, &kind, unit);
+    }
+
+    /// Makes a call that gives a unit water, spends water there or below, and cancels the first
+    /// title, sometimes once more after what spent it.
     fn spend(&mut self, s: &mut Source, kind: &Call, unit: u8) {
+        let spender = self.spender(s, unit);
+        let flow = self.flow(spender);
         let largest = self.largest_given(kind);
         let volume = s.between(1, i64::from(largest)) as u32;
         let title = self.put(with_volume(kind, volume));
-        let below = self.balance.units.get(usize::from(unit).wrapping_sub(1));
-        let spender = match below.map(|unit: &Unit| unit.downstream) {
+        let spending = self.spending(s, spender);
+        let volume = match s.chance(35) {
+            true => (flow + s.between(-1, 1)).clamp(1, TERM) as u32,
+            false => self
+                .largest_given(&spending)
+                .saturating_sub(s.below(3) as u32),
+        };
+        let spent = self.put(with_volume(&spending, volume));
+        self.take_back(title);
+        if s.chance(30) {
+            self.take_back(spent);
+            self.take_back(title);
+        }
+    }
+
+    /// A unit or one below it.
+    fn spender(&self, s: &mut Source, unit: u8) -> u8 {
+        let found = self.balance.units.get(usize::from(unit).wrapping_sub(1));
+        match found.map(|unit: &Unit| unit.downstream) {
             Some(downstream) if downstream > 0 && s.chance(30) => downstream as u8,
             _ => unit,
-        };
-        let spending = Call::Withdraw {
-            unit: spender,
-            usage: s.pick(&[1, 1, 3, 5]),
-            volume: 0,
-        };
-        let largest = self.largest_given(&spending);
-        self.put(with_volume(
-            &spending,
-            largest.saturating_sub(s.below(3) as u32),
-        ));
+        }
+    }
+
+    /// The flow of a unit, 0 if there is none.
+    fn flow(&self, unit: u8) -> i64 {
+        let flows = basin::flows(&self.balance.units);
+        let index = usize::from(unit).wrapping_sub(1);
+        flows.get(index).map_or(0, |flow| *flow as i64)
+    }
+
+    /// A withdrawal from a unit or a transfer out of it, without its volume.
+    fn spending(&self, s: &mut Source, unit: u8) -> Call {
+        match s.chance(65) {
+            true => Call::Withdraw {
+                unit,
+                usage: s.pick(&[1, 1, 3, 5]),
+                volume: 0,
+            },
+            false => Call::Transfer {
+                from: unit,
+                to: self.unit(s),
+                volume: 0,
+            },
+        }
+    }
+
+    /// Cancels a title that was given.
+    fn take_back(&mut self, title: Option<usize>) {
         if let Some(title) = title {
             self.put(Call::Cancel {
                 title: title as u16,
             });
         }
+    }
+}
+
+fn unit_of_entry(entry: Entry) -> Option<usize> {
+    match entry {
+        Entry::Extraction(unit)
+        | Entry::Exports(unit)
+        | Entry::Imports(unit)
+        | Entry::Returns(unit) => Some(unit),
+        Entry::AquiferExtraction(_) => None,
+    }
+}
+
+fn aquifer_of_entry(entry: Entry) -> Option<usize> {
+    match entry {
+        Entry::AquiferExtraction(aquifer) => Some(aquifer),
+        _ => None,
     }
 }
 
@@ -1103,7 +1239,8 @@ fn with_volume(call: &Call, volume: u32) -> Call {
         Call::Withdraw { volume: v, .. }
         | Call::Pump { volume: v, .. }
         | Call::Transfer { volume: v, .. }
-        | Call::Bring { volume: v, .. } => *v = volume,
+        | Call::Bring { volume: v, .. }
+        | Call::PumpReturning { volume: v, .. } => *v = volume,
         Call::Cancel { .. } => {}
     }
     call
@@ -1168,7 +1305,19 @@ fn damage_bytes(s: &mut Source, mut book: Vec<u8>) -> Vec<u8> {
         }
         6 => {
             let added: &[u8] = s.pick(&[
-                b"U", b"G", b"XX", b"un", b"NU", b"UN", b"GU", b"CA\0", b"PD", b"PD\0",
+                b"U",
+                b"G",
+                b"XX",
+                b"un",
+                b"NU",
+                b"UN",
+                b"GU",
+                b"CA\0",
+                b"PD",
+                b"PD\0",
+                b"GW",
+                b"GW\x01\x01\x01\x01\0\0",
+                b"gw",
             ]);
             book.extend(added);
         }
@@ -1239,6 +1388,12 @@ fn near_longest(s: &mut Source) -> Vec<u8> {
             from: number(s, units),
             to: number(s, units),
             volume: 1,
+        },
+        Call::PumpReturning {
+            aquifer: 1,
+            unit: number(s, units),
+            usage: usage(s),
+            volume: s.between(0, 3) as u32,
         },
         Call::Cancel {
             title: s.between(1, 256) as u16,

@@ -55,6 +55,13 @@ pub enum Call {
     Transfer { from: u8, to: u8, volume: u32 },
     /// Transfer from an aquifer to a unit (TA).
     Bring { aquifer: u8, unit: u8, volume: u32 },
+    /// Withdrawal from an aquifer whose return goes to a unit (GW).
+    PumpReturning {
+        aquifer: u8,
+        unit: u8,
+        usage: u8,
+        volume: u32,
+    },
     /// Cancellation of a title (CA).
     Cancel { title: u16 },
 }
@@ -86,11 +93,12 @@ pub enum Mark {
     Pump,
     Transfer,
     Bring,
+    PumpReturning,
     Cancel,
 }
 
 /// All marks with their two bytes and the length of the body that follows.
-pub const MARKS: [(Mark, &[u8; 2], usize); 11] = [
+pub const MARKS: [(Mark, &[u8; 2], usize); 12] = [
     (Mark::Unit, b"UN", 29),
     (Mark::Soil, b"SU", 6),
     (Mark::Rain, b"PR", 2),
@@ -101,6 +109,7 @@ pub const MARKS: [(Mark, &[u8; 2], usize); 11] = [
     (Mark::Pump, b"GA", 5),
     (Mark::Transfer, b"TU", 6),
     (Mark::Bring, b"TA", 6),
+    (Mark::PumpReturning, b"GW", 7),
     (Mark::Cancel, b"CA", 2),
 ];
 
@@ -116,7 +125,10 @@ impl Mark {
     /// Whether a record with this mark is a call.
     pub fn is_call(self) -> bool {
         use Mark::*;
-        matches!(self, Withdraw | Pump | Transfer | Bring | Cancel)
+        matches!(
+            self,
+            Withdraw | Pump | Transfer | Bring | PumpReturning | Cancel
+        )
     }
 
     /// The two bytes of the mark.
@@ -241,6 +253,12 @@ fn decode(mark: Mark, body: &[u8]) -> Record {
             unit: f.byte(),
             volume: f.volume(),
         }),
+        Mark::PumpReturning => Record::Call(Call::PumpReturning {
+            aquifer: f.byte(),
+            unit: f.byte(),
+            usage: f.byte(),
+            volume: f.volume(),
+        }),
         Mark::Cancel => Record::Call(Call::Cancel { title: f.short() }),
     }
 }
@@ -259,6 +277,7 @@ impl Record {
             Record::Call(Call::Pump { .. }) => Mark::Pump,
             Record::Call(Call::Transfer { .. }) => Mark::Transfer,
             Record::Call(Call::Bring { .. }) => Mark::Bring,
+            Record::Call(Call::PumpReturning { .. }) => Mark::PumpReturning,
             Record::Call(Call::Cancel { .. }) => Mark::Cancel,
         }
     }
@@ -331,6 +350,15 @@ fn put_call(bytes: &mut Vec<u8>, call: &Call) {
             volume,
         } => {
             bytes.extend([aquifer, unit]);
+            put_volumes(bytes, &[volume]);
+        }
+        Call::PumpReturning {
+            aquifer,
+            unit,
+            usage,
+            volume,
+        } => {
+            bytes.extend([aquifer, unit, usage]);
             put_volumes(bytes, &[volume]);
         }
         Call::Cancel { title } => bytes.extend(title.to_le_bytes()),

@@ -11,7 +11,7 @@ pub const MOST_TITLES: usize = 256;
 /// aquaculture, power (NOM-011-CONAGUA-2015, 4.2.5).
 pub const RETURN_PERCENT: [i64; 7] = [20, 75, 55, 75, 15, 100, 100];
 
-/// A title: one of four kinds.
+/// A title: one of five kinds.
 #[derive(Clone, Copy, Debug, PartialEq, Eq)]
 pub enum Title {
     UnitWithdrawal {
@@ -31,6 +31,13 @@ pub enum Title {
     AquiferTransfer {
         aquifer: usize,
         unit: usize,
+        volume: i64,
+    },
+    /// A withdrawal from an aquifer whose return goes to a unit.
+    ReturningWithdrawal {
+        aquifer: usize,
+        unit: usize,
+        usage: usize,
         volume: i64,
     },
 }
@@ -94,6 +101,15 @@ impl Title {
                 (Entry::AquiferExtraction(aquifer), volume),
                 (Entry::Imports(unit), volume),
             ],
+            Title::ReturningWithdrawal {
+                aquifer,
+                unit,
+                usage,
+                volume,
+            } => vec![
+                (Entry::AquiferExtraction(aquifer), volume),
+                (Entry::Returns(unit), return_of(usage, volume)),
+            ],
         }
     }
 
@@ -103,7 +119,8 @@ impl Title {
             Title::UnitWithdrawal { volume, .. }
             | Title::AquiferWithdrawal { volume, .. }
             | Title::UnitTransfer { volume, .. }
-            | Title::AquiferTransfer { volume, .. } => volume,
+            | Title::AquiferTransfer { volume, .. }
+            | Title::ReturningWithdrawal { volume, .. } => volume,
         }
     }
 }
@@ -165,6 +182,17 @@ fn title_of(call: &Call) -> Title {
         } => Title::AquiferTransfer {
             aquifer: usize::from(aquifer),
             unit: usize::from(unit),
+            volume: i64::from(volume),
+        },
+        Call::PumpReturning {
+            aquifer,
+            unit,
+            usage,
+            volume,
+        } => Title::ReturningWithdrawal {
+            aquifer: usize::from(aquifer),
+            unit: usize::from(unit),
+            usage: usize::from(usage),
             volume: i64::from(volume),
         },
         Call::Cancel { .. } => unreachable!("a cancellation asks for no title"),
@@ -238,13 +266,16 @@ fn place_missing(balance: &Balance, title: &Title) -> bool {
         Title::UnitWithdrawal { unit, .. } => no_unit(unit),
         Title::AquiferWithdrawal { aquifer, .. } => no_aquifer(aquifer),
         Title::UnitTransfer { from, to, .. } => no_unit(from) || no_unit(to),
-        Title::AquiferTransfer { aquifer, unit, .. } => no_aquifer(aquifer) || no_unit(unit),
+        Title::AquiferTransfer { aquifer, unit, .. }
+        | Title::ReturningWithdrawal { aquifer, unit, .. } => no_aquifer(aquifer) || no_unit(unit),
     }
 }
 
 fn use_missing(title: &Title) -> bool {
     match title {
-        Title::UnitWithdrawal { usage, .. } => !(1..=RETURN_PERCENT.len()).contains(usage),
+        Title::UnitWithdrawal { usage, .. } | Title::ReturningWithdrawal { usage, .. } => {
+            !(1..=RETURN_PERCENT.len()).contains(usage)
+        }
         _ => false,
     }
 }
@@ -275,7 +306,9 @@ fn lacks_water(after: &Balance, title: &Title) -> bool {
     match *title {
         Title::UnitWithdrawal { unit, .. } => outlet_basin_lacks_water(&after.units, unit),
         Title::UnitTransfer { from, .. } => outlet_basin_lacks_water(&after.units, from),
-        Title::AquiferWithdrawal { aquifer, .. } | Title::AquiferTransfer { aquifer, .. } => {
+        Title::AquiferWithdrawal { aquifer, .. }
+        | Title::AquiferTransfer { aquifer, .. }
+        | Title::ReturningWithdrawal { aquifer, .. } => {
             after.aquifers[aquifer - 1].availability() < 0
         }
     }

@@ -53,6 +53,7 @@ fn keyword(mark: Mark) -> &'static str {
         Mark::Pump => "pump",
         Mark::Transfer => "transfer",
         Mark::Bring => "bring",
+        Mark::PumpReturning => "pump-returning",
         Mark::Cancel => "cancel",
     }
 }
@@ -233,6 +234,12 @@ fn read_call(mark: Mark, fields: &mut NamedFields) -> Result<Call, String> {
             unit: fields.take("unit")?,
             volume: fields.take("volume")?,
         },
+        Mark::PumpReturning => Call::PumpReturning {
+            aquifer: fields.take("aquifer")?,
+            unit: fields.take("unit")?,
+            usage: fields.take("use")?,
+            volume: fields.take("volume")?,
+        },
         _ => return Err(format!("'{}' has no named fields", keyword(mark))),
     })
 }
@@ -386,6 +393,20 @@ fn show_call(word: &str, call: &Call) -> String {
             &[
                 ("aquifer", i64::from(aquifer)),
                 ("unit", i64::from(unit)),
+                ("volume", i64::from(volume)),
+            ],
+        ),
+        Call::PumpReturning {
+            aquifer,
+            unit,
+            usage,
+            volume,
+        } => named(
+            word,
+            &[
+                ("aquifer", i64::from(aquifer)),
+                ("unit", i64::from(unit)),
+                ("use", i64::from(usage)),
                 ("volume", i64::from(volume)),
             ],
         ),

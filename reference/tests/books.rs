@@ -1,11 +1,13 @@
 //! Random and boundary books, and what holds after every list of calls.
 
-use reference::basin::{self, Unit};
+mod common;
+
+use common::of_crate;
+use reference::basin::{self, Aquifer, Unit};
 use reference::book::{next_call, open};
 use reference::random;
 use reference::record::{book_of, records_of, Call, Record};
 use reference::register::{apply, return_of, Balance, Reply};
-use std::path::Path;
 
 #[test]
 fn a_seed_gives_one_book_and_most_descriptions_are_accepted() {
@@ -13,14 +15,6 @@ fn a_seed_gives_one_book_and_most_descriptions_are_accepted() {
     assert!(books[..200] == (0..200).map(random::book).collect::<Vec<_>>()[..]);
     let accepted = books.iter().filter(|book| open(book).is_ok()).count();
     assert!(accepted > 1000, "{accepted}");
-}
-
-/// A file of a program crate that runs many books through the proved functions.
-fn of_crate(program: &str, name: &str) -> Vec<u8> {
-    let folder = Path::new(env!("CARGO_MANIFEST_DIR"))
-        .join("../crates")
-        .join(program);
-    std::fs::read(folder.join(name)).expect(name)
 }
 
 #[test]
@@ -75,9 +69,11 @@ fn a_book_in_millimetres_prints_the_same_in_tenths() {
     assert!(books > 1000, "{books}");
 }
 
-/// What the calls given and not cancelled add, worked from the calls alone.
-fn entries_after(base: &[Unit], given: &[(Call, bool)]) -> (Vec<Unit>, i64) {
-    let mut units = base.to_vec();
+/// What the calls given and not cancelled add, worked from the calls alone: units and aquifers with
+/// their entries, and the water brought from aquifers.
+fn entries_after(base: &Balance, given: &[(Call, bool)]) -> (Vec<Unit>, Vec<Aquifer>, i64) {
+    let mut units = base.units.clone();
+    let mut aquifers = base.aquifers.clone();
     let mut brought = 0;
     for (call, _) in given.iter().filter(|(_, in_force)| *in_force) {
         match *call {
@@ -94,14 +90,32 @@ fn entries_after(base: &[Unit], given: &[(Call, bool)]) -> (Vec<Unit>, i64) {
                 units[usize::from(from) - 1].exports += i64::from(volume);
                 units[usize::from(to) - 1].imports += i64::from(volume);
             }
-            Call::Bring { unit, volume, .. } => {
+            Call::Bring {
+                aquifer,
+                unit,
+                volume,
+            } => {
+                aquifers[usize::from(aquifer) - 1].extraction += i64::from(volume);
                 units[usize::from(unit) - 1].imports += i64::from(volume);
                 brought += i64::from(volume);
             }
-            Call::Pump { .. } | Call::Cancel { .. } => {}
+            Call::PumpReturning {
+                aquifer,
+                unit,
+                usage,
+                volume,
+            } => {
+                aquifers[usize::from(aquifer) - 1].extraction += i64::from(volume);
+                units[usize::from(unit) - 1].returns +=
+                    return_of(usize::from(usage), i64::from(volume));
+            }
+            Call::Pump { aquifer, volume } => {
+                aquifers[usize::from(aquifer) - 1].extraction += i64::from(volume);
+            }
+            Call::Cancel { .. } => {}
         }
     }
-    (units, brought)
+    (units, aquifers, brought)
 }
 
 fn sum(units: &[Unit], entry: fn(&Unit) -> i64) -> i128 {
@@ -109,9 +123,11 @@ fn sum(units: &[Unit], entry: fn(&Unit) -> i64) -> i128 {
 }
 
 /// Water is conserved, and the reserves add up to the demands.
-fn assert_conserved(base: &[Unit], given: &[(Call, bool)], balance: &Balance) {
-    let (units, brought) = entries_after(base, given);
+fn assert_conserved(base: &Balance, given: &[(Call, bool)], balance: &Balance) {
+    let (units, aquifers, brought) = entries_after(base, given);
     assert_eq!(units, balance.units);
+    assert_eq!(aquifers, balance.aquifers);
+    let base = &base.units;
     let results = basin::results(&balance.units);
     let outlets: i128 = units
         .iter()
@@ -136,12 +152,13 @@ fn assert_conserved(base: &[Unit], given: &[(Call, bool)], balance: &Balance) {
 #[test]
 fn water_is_conserved_after_every_call() {
     let mut calls = 0;
+    let mut returning = 0;
     for seed in 0..2000 {
         let book = random::book(seed);
         let Ok(opened) = open(&book) else {
             continue;
         };
-        let base = opened.balance.units.clone();
+        let base = opened.balance.clone();
         let mut balance = opened.balance;
         let mut given: Vec<(Call, bool)> = Vec::new();
         let mut at = opened.end;
@@ -155,6 +172,7 @@ fn water_is_conserved_after_every_call() {
             let (reply, after) = apply(&balance, &call);
             match reply {
                 Reply::Given(title) => {
+                    returning += usize::from(matches!(call, Call::PumpReturning { .. }));
                     given.push((call, true));
                     assert_eq!(title, given.len());
                 }
@@ -169,5 +187,5 @@ fn water_is_conserved_after_every_call() {
             assert_conserved(&base, &given, &balance);
         }
     }
-    assert!(calls > 10_000, "{calls}");
+    assert!(calls > 10_000 && returning > 1000, "{calls} {returning}");
 }

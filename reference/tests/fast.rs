@@ -171,12 +171,12 @@ fn change_aquifer(s: &mut Source, balance: &mut Balance) {
 
 fn random_title(s: &mut Source) -> Title {
     let mut number = || s.pick(&[0, 1, 2, 3, 7, 8, 32, 33, 64, 65, usize::MAX]);
-    let (first, second) = (number(), number());
+    let (first, second, third) = (number(), number(), number());
     let volume = match s.chance(50) {
         true => edge(s),
         false => s.between(1, 50),
     };
-    match s.below(4) {
+    match s.below(5) {
         0 => Title::UnitWithdrawal {
             unit: first,
             usage: second,
@@ -191,9 +191,15 @@ fn random_title(s: &mut Source) -> Title {
             to: second,
             volume,
         },
-        _ => Title::AquiferTransfer {
+        3 => Title::AquiferTransfer {
             aquifer: first,
             unit: second,
+            volume,
+        },
+        _ => Title::ReturningWithdrawal {
+            aquifer: first,
+            unit: second,
+            usage: third,
             volume,
         },
     }
@@ -241,6 +247,61 @@ fn change_balance(s: &mut Source, balance: &mut Balance) {
         6..=8 => change_title(s, balance),
         _ => change_count(s, balance),
     }
+}
+
+/// Changes a place, the use or the volume of a returning withdrawal, or an entry that it went into.
+fn change_returning(s: &mut Source, balance: &mut Balance) {
+    let (units, aquifers) = (balance.units.len(), balance.aquifers.len());
+    let Some(place) = returning_in_force(balance).last().copied() else {
+        return;
+    };
+    if let Title::ReturningWithdrawal {
+        aquifer,
+        unit,
+        usage,
+        volume,
+    } = &mut balance.titles[place].title
+    {
+        let (aquifer_index, unit_index) = (*aquifer - 1, *unit - 1);
+        match s.below(6) {
+            0 => *aquifer = s.pick(&[0, 1, aquifers, aquifers + 1, usize::MAX]),
+            1 => *unit = s.pick(&[0, 1, units, units + 1, usize::MAX]),
+            2 => *usage = s.pick(&[0, 1, 5, 7, 8, usize::MAX]),
+            3 => change(s, volume),
+            4 => change(s, &mut balance.units[unit_index].returns),
+            _ => change(s, &mut balance.aquifers[aquifer_index].extraction),
+        }
+    }
+}
+
+/// The places of the returning withdrawals in force.
+fn returning_in_force(balance: &Balance) -> Vec<usize> {
+    (0..balance.titles.len())
+        .filter(|place| {
+            let registered = &balance.titles[*place];
+            registered.in_force && matches!(registered.title, Title::ReturningWithdrawal { .. })
+        })
+        .collect()
+}
+
+#[test]
+fn balances_with_a_changed_returning_withdrawal_are_refused_the_same() {
+    let s = &mut Source::new(2);
+    let (mut faulty, mut sound) = (0, 0);
+    for seed in 40_000..42_000 {
+        for (balance, call) in balances(&random::book(seed)).into_iter().take(60) {
+            if returning_in_force(&balance).is_empty() {
+                continue;
+            }
+            let mut changed = balance;
+            change_returning(s, &mut changed);
+            match assert_same_reply(&changed, &call) {
+                Reply::Refused(0) => faulty += 1,
+                _ => sound += 1,
+            }
+        }
+    }
+    assert!(faulty > 1000 && sound > 1000, "{faulty} {sound}");
 }
 
 #[test]

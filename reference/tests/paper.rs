@@ -52,6 +52,15 @@ fn case_g_after_the_first_call() {
     assert_eq!(printed(&text), table);
 }
 
+/// Wells of 200 on the paper's book: 150 come back to unit 2 and reach unit 3 with its flow.
+#[test]
+fn well_water_that_comes_back() {
+    let table = "call 1 given 1\nunit 1 10080 3029 3029 7051\nunit 2 1690 508 508 1182\n\
+                 unit 3 10310 1000 463 9310\naquifer 1 2000 0\n";
+    let text = format!("{BASIN}; pump-returning aquifer=1 unit=2 use=2 volume=200");
+    assert_eq!(printed(&text), table);
+}
+
 #[test]
 fn appendix_c() {
     let text = include_str!("../../examples/rio-bravo.txt");
@@ -101,7 +110,7 @@ fn the_example_basin_prints_the_replies_of_its_comments() {
         .filter(|line| line.starts_with("call "))
         .map(|line| line.splitn(3, ' ').nth(2).unwrap_or("").to_string())
         .collect();
-    assert_eq!(expected.len(), 28);
+    assert_eq!(expected.len(), 30);
     assert_eq!(replies, expected);
 }
 
@@ -193,6 +202,19 @@ fn refusals_of_calls() {
             "refused 20",
         ),
         (format!("{imported}; bring aquifer=1 unit=1 volume=9; cancel 1"), "cancelled 1"),
+        (format!("{BASIN}; pump-returning aquifer=2 unit=1 use=9 volume=0"), "refused 12"),
+        (format!("{BASIN}; pump-returning aquifer=1 unit=4 use=9 volume=0"), "refused 12"),
+        (format!("{BASIN}; pump-returning aquifer=1 unit=1 use=8 volume=0"), "refused 13"),
+        (format!("{BASIN}; pump-returning aquifer=1 unit=1 use=7 volume=0"), "refused 14"),
+        (format!("{FOREST}; {wide}; {full}; pump-returning aquifer=1 unit=1 use=1 volume=1001"), "refused 15"),
+        (format!("{FOREST}; {wide}; pump-returning aquifer=1 unit=1 use=1 volume=1001"), "refused 16"),
+        (format!("{BASIN}; pump-returning aquifer=1 unit=1 use=6 volume=201"), "refused 17"),
+        (format!("{BASIN}; pump-returning aquifer=1 unit=1 use=6 volume=200"), "given 1"),
+        (
+            format!("{imported}; pump-returning aquifer=1 unit=1 use=6 volume=9; withdraw unit=1 use=1 volume=5; cancel 1"),
+            "refused 20",
+        ),
+        (format!("{imported}; pump-returning aquifer=1 unit=1 use=6 volume=9; cancel 1"), "cancelled 1"),
     ] {
         assert_eq!(last_reply(&text), reply, "{text}");
     }
@@ -204,6 +226,8 @@ fn a_failing_call_record_is_printed_before_the_table() {
     let table = "unit 1 1540 0 0 1540\n";
     for (bytes, number) in [
         (&b"GU\x01"[..], 1),
+        (b"GW\x01\x01\x01\x01\0\0", 1),
+        (b"GV\x01\x01\x01\x01\0\0\0", 2),
         (b"G", 1),
         (b"XX", 2),
         (b"UN", 2),

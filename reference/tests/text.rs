@@ -29,6 +29,14 @@ fn faults_have_their_line() {
         "line 1: -1 does not fit in field 'volume'"
     );
     assert_eq!(
+        fault("pump-returning use=256"),
+        "line 1: 256 does not fit in field 'use'"
+    );
+    assert_eq!(
+        fault("pump-returning to=1"),
+        "line 1: 'pump-returning' has no field 'to'"
+    );
+    assert_eq!(
         fault("unit\nrain"),
         "line 2: one number is wanted after the keyword"
     );
@@ -76,6 +84,10 @@ fn bytes_that_are_no_records_have_their_offset() {
         shown(b"CA\0\0GU\0"),
         "byte 4: fewer bytes left than the record has"
     );
+    assert_eq!(
+        shown(b"CA\0\0GW\x01\x01\x01\x05\0\0"),
+        "byte 4: fewer bytes left than the record has"
+    );
 }
 
 #[test]
@@ -86,7 +98,9 @@ fn values_past_every_limit_go_through_text() {
                  gauge outflow=4294967295 storage=2147483647 x3\n\
                  aquifer storage=-2147483648 natural=4294967295\n\
                  withdraw unit=255 use=255 volume=4294967295\npump aquifer=255\n\
-                 transfer from=255 to=255\nbring aquifer=255 unit=255\ncancel 65535\nunit\n";
+                 transfer from=255 to=255\nbring aquifer=255 unit=255\n\
+                 pump-returning aquifer=255 unit=254 use=253 volume=4294967295\n\
+                 cancel 65535\nunit\n";
     let book = make(lines).expect("the text is well formed");
     let text = show(&book).expect("the book is well formed");
     let without_comments: String = text
@@ -96,6 +110,14 @@ fn values_past_every_limit_go_through_text() {
         .collect();
     assert_eq!(without_comments, lines);
     assert_eq!(make(&text), Ok(book));
+}
+
+#[test]
+fn the_fields_of_a_returning_withdrawal_have_their_order() {
+    assert_eq!(
+        make("pump-returning volume=67305985 use=3 unit=2 aquifer=1"),
+        Ok(b"GW\x01\x02\x03\x01\x02\x03\x04".to_vec())
+    );
 }
 
 #[test]

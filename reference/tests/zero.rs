@@ -33,6 +33,12 @@ fn with_titles() -> Balance {
             unit: 1,
             volume: 20,
         },
+        Call::PumpReturning {
+            aquifer: 1,
+            unit: 3,
+            usage: 2,
+            volume: 40,
+        },
     ];
     calls.iter().fold(basin(), |balance, call| {
         let (reply, after) = apply(&balance, call);
@@ -64,6 +70,12 @@ fn assert_faulty(change: fn(&mut Balance)) {
         Call::Bring {
             aquifer: 0,
             unit: 0,
+            volume: 0,
+        },
+        Call::PumpReturning {
+            aquifer: 0,
+            unit: 0,
+            usage: 0,
             volume: 0,
         },
         Call::Cancel { title: 0 },
@@ -262,17 +274,93 @@ fn titles_in_force() {
 
 #[test]
 fn titles_beyond_their_entries() {
-    // Extraction of unit 3 is 5000 with the title, its returns are 400.
+    // Extraction of unit 3 is 5000 with the title. Its returns are 400 of that title and 30 of well water.
     assert_sound(|b| b.units[2].extraction = 2000);
     assert_faulty(|b| b.units[2].extraction = 1999);
-    assert_faulty(|b| b.units[2].returns = 399);
+    assert_sound(|b| b.units[2].returns = 430);
+    assert_faulty(|b| b.units[2].returns = 429);
     assert_faulty(|b| b.units[2].exports = 9);
     // Unit 1 imports 10 from unit 3 and 20 from the aquifer.
     assert_sound(|b| b.units[0].imports = 30);
     assert_faulty(|b| b.units[0].imports = 29);
-    // The aquifer gives 50 and 20.
-    assert_sound(|b| b.aquifers[0].extraction = 70);
-    assert_faulty(|b| b.aquifers[0].extraction = 69);
+    // The aquifer gives 50, 20 and 40.
+    assert_sound(|b| b.aquifers[0].extraction = 110);
+    assert_faulty(|b| b.aquifers[0].extraction = 109);
+}
+
+/// The balance with its fifth title changed: aquifer, unit, use and volume.
+fn with_fifth(fields: (usize, usize, usize, i64)) -> Balance {
+    let (aquifer, unit, usage, volume) = fields;
+    let mut balance = with_titles();
+    let changed = Title::ReturningWithdrawal {
+        aquifer,
+        unit,
+        usage,
+        volume,
+    };
+    title(&mut balance, 5, changed);
+    balance
+}
+
+#[test]
+fn the_fifth_kind_in_force() {
+    assert_eq!(with_fifth((1, 3, 2, 40)), with_titles());
+    for fields in [
+        (0, 3, 2, 40),
+        (2, 3, 2, 40),
+        (3, 1, 2, 40),
+        (usize::MAX, 3, 2, 40),
+        (1, 0, 2, 40),
+        (1, 4, 2, 40),
+        (1, usize::MAX, 2, 40),
+        (1, 3, 0, 40),
+        (1, 3, 8, 40),
+        (1, 3, usize::MAX, 40),
+        (1, 3, 2, 0),
+        (1, 3, 2, -40),
+        (1, 3, 2, 10_000_001),
+        (1, 3, 2, i64::MAX),
+        // Returns of 31 and of 40 beside the other title's 400, and of 30 in another unit.
+        (1, 3, 2, 42),
+        (1, 3, 6, 40),
+        (1, 1, 2, 40),
+    ] {
+        let balance = with_fifth(fields);
+        assert!(is_faulty(&balance), "{fields:?}");
+        let call = Call::Cancel { title: 5 };
+        assert_eq!(apply(&balance, &call), (Reply::Refused(0), balance.clone()));
+        let mut cancelled = balance;
+        cancelled.titles[4].in_force = false;
+        assert!(!is_faulty(&cancelled), "{fields:?}");
+    }
+    for fields in [(1, 3, 2, 41), (1, 3, 1, 40), (1, 1, 2, 1), (1, 2, 5, 6)] {
+        assert!(!is_faulty(&with_fifth(fields)), "{fields:?}");
+    }
+}
+
+#[test]
+fn the_fifth_kind_beyond_its_entries() {
+    let alone = |returns: i64, extraction: i64| {
+        let mut balance = with_titles();
+        for registered in &mut balance.titles[..4] {
+            registered.in_force = false;
+        }
+        balance.units[2].returns = returns;
+        balance.aquifers[0].extraction = extraction;
+        is_faulty(&balance)
+    };
+    assert!(!alone(30, 40));
+    assert!(alone(29, 40));
+    assert!(alone(30, 39));
+}
+
+#[test]
+fn a_cancelled_fifth_kind_takes_both_back() {
+    let (reply, after) = apply(&with_titles(), &Call::Cancel { title: 5 });
+    assert_eq!(reply, Reply::Cancelled(5));
+    assert_eq!(after.units[2].returns, 400);
+    assert_eq!(after.aquifers[0].extraction, 1370);
+    assert!(!after.titles[4].in_force);
 }
 
 #[test]

@@ -13,7 +13,7 @@ use Rattle.laws.proofs.Cases.{by-bool}
 use Rattle.model.specs.declared.Unit.{Unit}
 use Rattle.model.specs.declared.Aquifer.{Aquifer}
 use Rattle.model.specs.declared.Title.{Title}
-use Rattle.model.specs.declared.Title.the-variants.{UnitWithdrawal, AquiferWithdrawal, UnitTransfer, AquiferTransfer}
+use Rattle.model.specs.declared.Title.the-variants.{UnitWithdrawal, AquiferWithdrawal, UnitTransfer, AquiferTransfer, ReturningWithdrawal}
 use Rattle.model.specs.declared.Place.{Place}
 use Rattle.model.specs.Fresh.{freshBalance}
 use Rattle.model.specs.View.{View, viewOf}
@@ -66,6 +66,7 @@ TitleSound units aquifers (UnitWithdrawal u r v) = Exists units u × Exists 7 r 
 TitleSound units aquifers (AquiferWithdrawal a v) = Exists aquifers a × Volume v
 TitleSound units aquifers (UnitTransfer g r v) = Exists units g × Exists units r × Volume v
 TitleSound units aquifers (AquiferTransfer a u v) = Exists aquifers a × Exists units u × Volume v
+TitleSound units aquifers (ReturningWithdrawal a u r v) = Exists aquifers a × Exists units u × Exists 7 r × Volume v
 
 -- A title in force is sound.
 pub record PlaceSound (units aquifers : ℕ) (p : Place) : Type 0 where
@@ -209,7 +210,7 @@ is-volume x e =
 pub volume-is : (x : ℕ) → Volume x → Sound.isVolume x ≡ true
 volume-is x f = both-hold (ltb 0 x) (leb x termLimit) (lt-ltb 0 x (f .positive)) (le-leb x termLimit (f .within))
 
--- One number and a volume, or two.
+-- One number and a volume, or two, or three.
 one-exists : (l n x : ℕ) → (Sound.exists l n && Sound.isVolume x) ≡ true → Exists l n × Volume x
 one-exists l n x e = let p = both (Sound.exists l n) _ e in (number-exists l n (p .0), is-volume x (p .1))
 
@@ -225,17 +226,30 @@ both-exist l m a b x e =
 exist-both : (l m a b x : ℕ) → Exists l a × Exists m b × Volume x → (Sound.exists l a && (Sound.exists m b && Sound.isVolume x)) ≡ true
 exist-both l m a b x f = both-hold (Sound.exists l a) _ (exists-number l a (f .0)) (exists-one m b x (f .1, f .2))
 
+all-exist : (l m n a b c x : ℕ) → (Sound.exists l a && (Sound.exists m b && (Sound.exists n c && Sound.isVolume x))) ≡ true
+    → Exists l a × Exists m b × Exists n c × Volume x
+all-exist l m n a b c x e =
+    let p = both (Sound.exists l a) _ e in
+    let q = both-exist m n b c x (p .1) in
+    (number-exists l a (p .0), q .0, q .1, q .2)
+
+exist-all : (l m n a b c x : ℕ) → Exists l a × Exists m b × Exists n c × Volume x
+    → (Sound.exists l a && (Sound.exists m b && (Sound.exists n c && Sound.isVolume x))) ≡ true
+exist-all l m n a b c x f = both-hold (Sound.exists l a) _ (exists-number l a (f .0)) (exist-both m n b c x (f .1, f .2, f .3))
+
 pub title-sound : (units aquifers : ℕ) (t : Title) → Sound.soundTitle units aquifers t ≡ true → TitleSound units aquifers t
 title-sound units aquifers (UnitWithdrawal u r v) e = both-exist units 7 u r v e
 title-sound units aquifers (AquiferWithdrawal a v) e = one-exists aquifers a v e
 title-sound units aquifers (UnitTransfer g r v) e = both-exist units units g r v e
 title-sound units aquifers (AquiferTransfer a u v) e = both-exist aquifers units a u v e
+title-sound units aquifers (ReturningWithdrawal a u r v) e = all-exist aquifers units 7 a u r v e
 
 pub sound-title : (units aquifers : ℕ) (t : Title) → TitleSound units aquifers t → Sound.soundTitle units aquifers t ≡ true
 sound-title units aquifers (UnitWithdrawal u r v) f = exist-both units 7 u r v f
 sound-title units aquifers (AquiferWithdrawal a v) f = exists-one aquifers a v f
 sound-title units aquifers (UnitTransfer g r v) f = exist-both units units g r v f
 sound-title units aquifers (AquiferTransfer a u v) f = exist-both aquifers units a u v f
+sound-title units aquifers (ReturningWithdrawal a u r v) f = exist-all aquifers units 7 a u r v f
 
 pub place-sound : (units aquifers : ℕ) (p : Place) → Sound.soundPlace units aquifers p ≡ true → PlaceSound units aquifers p
 place-sound units aquifers p e =

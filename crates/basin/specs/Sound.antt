@@ -1,4 +1,5 @@
--- The test for 0 (document 01, "What each operation refuses"): a call gives 0 if the balance handed to it is not sound. Assumes nothing.
+-- The test for 0 (document 01, "What each operation refuses"; document 02 [2]): a call gives 0 if the balance handed to it is not sound.
+-- Assumes nothing.
 use Prim.Native.Nat.{ℕ, suc}
 use mathlib.Core.Path.{_≡_}
 use mathlib.Core.Bool.{Bool, true, false, not, _&&_, _||_}
@@ -11,7 +12,7 @@ use Rattle.laws.specs.Sum.{every}
 use Rattle.model.specs.declared.Unit.{Unit}
 use Rattle.model.specs.declared.Aquifer.{Aquifer}
 use Rattle.model.specs.declared.Title.{Title}
-use Rattle.model.specs.declared.Title.the-variants.{UnitWithdrawal, AquiferWithdrawal, UnitTransfer, AquiferTransfer}
+use Rattle.model.specs.declared.Title.the-variants.{UnitWithdrawal, AquiferWithdrawal, UnitTransfer, AquiferTransfer, ReturningWithdrawal}
 use Rattle.model.specs.declared.Place.{Place}
 use Rattle.model.specs.declared.Balance.{Balance}
 use Rattle.model.specs.Fresh.{emptyUnit, emptyAquifer, emptyPlace}
@@ -70,6 +71,7 @@ soundTitle units aquifers (UnitWithdrawal u r v) = exists units u && (exists 7 r
 soundTitle units aquifers (AquiferWithdrawal a v) = exists aquifers a && isVolume v
 soundTitle units aquifers (UnitTransfer g r v) = exists units g && (exists units r && isVolume v)
 soundTitle units aquifers (AquiferTransfer a u v) = exists aquifers a && (exists units u && isVolume v)
+soundTitle units aquifers (ReturningWithdrawal a u r v) = exists aquifers a && (exists units u && (exists 7 r && isVolume v))
 
 abbrev pub soundPlace : ℕ → ℕ → Place → Bool
 soundPlace units aquifers p = not (p .«in_force») || soundTitle units aquifers (p .title)
@@ -157,6 +159,6 @@ flowing v = every (v .units) (λ j. nonNeg (flow v j))
 abbrev pub covered : View → Bool
 covered v = every (v .units) (coveredUnit v) && every (v .aquifers) (coveredAquifer v)
 
--- A sound balance: none of the faults that document 01 lists for 0.
+-- A sound balance: none of the faults that documents 01 and 02 list for 0.
 unfoldable pub sound : View → Bool
 sound v = soundCounts v && (soundUnits v && (soundAquifers v && (flowing v && (soundTitles v && covered v))))

@@ -38,6 +38,16 @@ fn both_exist(first: usize, a: u8, second: usize, b: u8, volume: u32) -> bool
     is_volume(volume)
 }
 
+// The same of a withdrawal from an aquifer that returns to a unit, which names three numbers.
+fn all_exist(first: usize, a: u8, second: usize, b: u8, third: usize, c: u8, volume: u32) -> bool
+    ensures { λ r. ⌜ r ≡ (sounds.exists first a && (sounds.exists second b && (sounds.exists third c && sounds.isVolume volume))) ⌝ }
+{
+    if !exists(first, a) {
+        return false;
+    }
+    both_exist(second, b, third, c, volume)
+}
+
 // The same of a withdrawal from an aquifer, which names one number.
 fn one_exists(last: usize, number: u8, volume: u32) -> bool
     ensures { λ r. ⌜ r ≡ (sounds.exists last number && sounds.isVolume volume) ⌝ }
@@ -65,5 +75,11 @@ pub fn title_sound(t: Title, units: usize, aquifers: usize) -> bool
             unit,
             volume,
         } => both_exist(aquifers, aquifer, units, unit, volume),
+        Title::ReturningWithdrawal {
+            aquifer,
+            unit,
+            usage,
+            volume,
+        } => all_exist(aquifers, aquifer, units, unit, 7, usage, volume),
     }
 }

@@ -8,11 +8,12 @@ use borrow.Author.Tests.{eq-eqb, ne-eqb, lt-ltb, le-ltb}
 use Rattle.laws.proofs.Cases.{by-eq, by-lt}
 use Rattle.model.specs.declared.Call.{Call}
 use Rattle.record.specs.declared.CallMark.{CallMark}
-use Rattle.record.specs.declared.CallMark.the-variants.{Gu, Ga, Tu, Ta, Ca, None}
+use Rattle.record.specs.declared.CallMark.the-variants.{Gu, Ga, Tu, Ta, Gw, Ca, None}
 use Rattle.record.specs.declared.CallAt.{CallAt}
 use Rattle.record.specs.declared.CallAt.the-variants.{End, Fails, Asks}
 use Rattle.record.specs.Bytes.{bits8}
-use Rattle.record.specs.Calls.{callMark, wholeCall, callMarked, callAt, callsFrom, endingFrom, callsOf, endingOf}
+use Rattle.record.specs.Record.{callMark}
+use Rattle.record.specs.Calls.{wholeCall, callMarked, callAt, callsFrom, endingFrom, callsOf, endingOf}
 
 abbrev Onward : List ℕ → ℕ → CallAt → Type 0
 Onward s at End = Unit {0}
@@ -30,6 +31,7 @@ mark-onward s at Gu = whole-onward s at 8 _ (omega arith)
 mark-onward s at Ga = whole-onward s at 7 _ (omega arith)
 mark-onward s at Tu = whole-onward s at 8 _ (omega arith)
 mark-onward s at Ta = whole-onward s at 8 _ (omega arith)
+mark-onward s at Gw = whole-onward s at 9 _ (omega arith)
 mark-onward s at Ca = whole-onward s at 4 _ (omega arith)
 mark-onward s at None = tt
 

@@ -9,6 +9,7 @@ use native.Mathlib.Omega.{arith}
 use Rattle.laws.specs.Sum.{sumOf, every}
 use Rattle.laws.specs.Gather.{gather, gatherTo}
 use Rattle.laws.specs.Table.{table, tabulate, indexed}
+use Rattle.model.specs.declared.Unit.{Unit}
 use Rattle.model.specs.declared.Place.{Place}
 use Rattle.model.specs.declared.Title.{Title}
 use Rattle.model.specs.declared.Title.the-variants.{UnitWithdrawal, AquiferWithdrawal, UnitTransfer, AquiferTransfer}
@@ -46,12 +47,18 @@ use Rattle.register.proofs.Leaving.{reply-cancelled}
 use Rattle.cases.specs.OneUnit.{unitWith}
 use Rattle.cases.specs.Printed.{printedDescription, printedCalls, printedBook}
 
--- The printed book's balance with the entries that its calls change: unit 3's extraction, imports and returns, the aquifer's extraction,
--- and the titles.
-bookBalance : ℕ → ℕ → ℕ → ℕ → List Place → ℕ → Balance
-bookBalance extraction imports returns pumping titles given =
+-- Units 2 and 3 of the printed book with the entries that calls change: extraction, of unit 3 also imports, and returns.
+abbrev pub secondWith : ℕ → ℕ → Unit
+secondWith extraction returns = unitWith 3 extraction 0 returns 0 1540
+
+abbrev pub thirdWith : ℕ → ℕ → ℕ → Unit
+thirdWith extraction imports returns = unitWith 0 extraction imports returns 1000 1540
+
+-- The printed book's balance with these two units, this extraction of the aquifer and these titles.
+unfoldable pub bookBalance : Unit → Unit → ℕ → List Place → ℕ → Balance
+bookBalance second third pumping titles given =
     record {
-      units = unitWith 3 0 0 0 0 10080 ∷ unitWith 3 0 0 0 0 1540 ∷ unitWith 0 extraction imports returns 1000 1540 ∷ replicate 61 emptyUnit;
+      units = unitWith 3 0 0 0 0 10080 ∷ second ∷ third ∷ replicate 61 emptyUnit;
       «unit_count» = 3;
       aquifers =
           record { storage = negsuc 199; natural = 900; pumped = 1300; committed = 500; extraction = pumping } ∷ replicate 31 emptyAquifer;
@@ -76,15 +83,15 @@ fourthTitle = AquiferTransfer 1 3 200
 -- Before the calls, after call 1 (which calls 2 and 3 leave), and after call 4.
 unfoldable pub printedBalance : Balance
 unfolding bookBalance
-printedBalance = bookBalance 3000 0 0 1300 (replicate 256 emptyPlace) 0
+printedBalance = bookBalance (secondWith 0 0) (thirdWith 3000 0 0) 1300 (replicate 256 emptyPlace) 0
 
 unfoldable pub firstBalance : Balance
 unfolding bookBalance
-firstBalance = bookBalance 5000 0 400 1300 (placeOf firstTitle true ∷ replicate 255 emptyPlace) 1
+firstBalance = bookBalance (secondWith 0 0) (thirdWith 5000 0 400) 1300 (placeOf firstTitle true ∷ replicate 255 emptyPlace) 1
 
 unfoldable pub lastBalance : Balance
 unfolding bookBalance
-lastBalance = bookBalance 5000 200 400 1500 (placeOf firstTitle true ∷ placeOf fourthTitle true ∷ replicate 254 emptyPlace) 2
+lastBalance = bookBalance (secondWith 0 0) (thirdWith 5000 200 400) 1500 (placeOf firstTitle true ∷ placeOf fourthTitle true ∷ replicate 254 emptyPlace) 2
 
 -- Opening the printed book gives the first of them, which is sound as every balance that is opened.
 pub printed-opens : opened printedBook ≡ record { answer = Accepted; place = 379; balance = printedBalance }
@@ -155,16 +162,16 @@ eightTitle = UnitWithdrawal 3 1 8
 
 unfoldable sevenBalance : Balance
 unfolding bookBalance
-sevenBalance = bookBalance 3007 0 1 1300 (placeOf sevenTitle true ∷ replicate 255 emptyPlace) 1
+sevenBalance = bookBalance (secondWith 0 0) (thirdWith 3007 0 1) 1300 (placeOf sevenTitle true ∷ replicate 255 emptyPlace) 1
 
 unfoldable eightBalance : Balance
 unfolding bookBalance
-eightBalance = bookBalance 3015 0 2 1300 (placeOf sevenTitle true ∷ placeOf eightTitle true ∷ replicate 254 emptyPlace) 2
+eightBalance = bookBalance (secondWith 0 0) (thirdWith 3015 0 2) 1300 (placeOf sevenTitle true ∷ placeOf eightTitle true ∷ replicate 254 emptyPlace) 2
 
 unfoldable pub cancelledBalance : Balance
 unfolding bookBalance
 cancelledBalance =
-    bookBalance 3007 0 1 1300 (placeOf sevenTitle true ∷ placeOf eightTitle false ∷ replicate 254 emptyPlace) 2
+    bookBalance (secondWith 0 0) (thirdWith 3007 0 1) 1300 (placeOf sevenTitle true ∷ placeOf eightTitle false ∷ replicate 254 emptyPlace) 2
 
 seven-water : noWater (granted (viewOf printedBalance) sevenTitle) sevenTitle ≡ false
 unfolding printedBalance flow gather gatherTo sumOf committed committedTo every outlet outletTo

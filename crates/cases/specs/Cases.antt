@@ -1,4 +1,5 @@
--- The cases of document 01 ("Cases for the proof table") and two of rain in tenths as one group of theorems of the definitions. Assumes nothing.
+-- The cases of document 01 ("Cases for the proof table"), two of rain in tenths and two of well water that comes back as one group of
+-- theorems of the definitions. Assumes nothing.
 use Prim.Native.Nat.{ℕ, _+_, _-_, _*_, _/_}
 use mathlib.Core.Path.{_≡_, refl, sym, ap, _∙_}
 use mathlib.Core.Bool.{true}
@@ -8,7 +9,7 @@ use lib.IntN.{pos}
 use Rattle.laws.specs.Sum.{sumOf}
 use Rattle.laws.specs.Gather.{gather, gatherTo}
 use Rattle.laws.specs.Table.{table, tabulate}
-use Rattle.model.specs.declared.Title.the-variants.{UnitWithdrawal, AquiferWithdrawal, UnitTransfer, AquiferTransfer}
+use Rattle.model.specs.declared.Title.the-variants.{UnitWithdrawal, AquiferWithdrawal, UnitTransfer, AquiferTransfer, ReturningWithdrawal}
 use Rattle.model.specs.declared.Call.the-variants.{Grant, Cancel}
 use Rattle.model.specs.declared.Balance.{Balance}
 use Rattle.model.specs.declared.Answer.the-variants.{Accepted, Refused}
@@ -35,10 +36,11 @@ use Rattle.register.specs.Reply.{grantReply}
 use Rattle.register.specs.Calls.{after}
 use Rattle.text.specs.Text.{ascii}
 use Rattle.listing.specs.Listing.{printed}
-use Rattle.cases.specs.Printed.{millimetres, printedDescription, printedBook}
+use Rattle.cases.specs.Printed.{millimetres, printedDescription, printedBook, returningBook, releasedBook}
 use Rattle.cases.specs.OneUnit.{meadow, forest, half, under, tequisistlan, steady, uneven, mixed, bothMarks, tequisistlanYears, gauges, rainBook, gaugedBook, opensOne, opens-a, opens-b, opens-c, opens-d, opens-e, opens-mixed, opens-both, opens-tequisistlan, opens-gauged}
 use Rattle.cases.specs.Balances.{firstTitle, printedBalance, firstBalance, printed-opens, printed-sound, first-sound, calls-are, downstream-reply, sevenTitle, eightTitle, cancelledBalance, after-cancelled}
-use Rattle.cases.specs.Lines.{after-first, printed-is}
+use Rattle.cases.specs.Returning.{returning-opens, returning-asks}
+use Rattle.cases.specs.Lines.{after-first, printed-is, returning-printed, released-printed}
 
 -- The rain of some years together, in tenths.
 abbrev pub rainTotal : List Rain → ℕ
@@ -138,6 +140,20 @@ pub record CasesHold : Type 0 where
   pub cancelled-return :
       viewOf (after (opened printedBook .balance) (Grant (UnitWithdrawal 3 1 7) ∷ Grant (UnitWithdrawal 3 1 8) ∷ Cancel 2 ∷ [])) .unit 2 .returns ≡ 1
   pub cancelled-from-the-sum : returned 1 7 + returned 1 8 - (returned 1 (7 + 8) - returned 1 7) ≡ 0
+  -- Well water that comes back: 200 from aquifer 1, of which 150 go to unit 2. The aquifer loses all 200, so that 1 more is refused though
+  -- all of it would return; and with unit 2's water used the title cannot be cancelled.
+  pub returning-calls :
+      callsOf returningBook (opened returningBook .place)
+      ≡ Grant (ReturningWithdrawal 1 2 2 200) ∷ Grant (ReturningWithdrawal 1 2 6 1) ∷ Grant (UnitWithdrawal 2 1 1938) ∷ Cancel 1 ∷ []
+  pub returning :
+      printed returningBook
+      ≡ ascii
+      "call 1 given 1\ncall 2 refused 17\ncall 3 given 2\ncall 4 refused 20\nunit 1 10080 3428 3428 6652\nunit 2 139 48 1986 91\nunit 3 8759 1000 524 7759\naquifer 1 2000 0\n"
+  -- Cancelled before that, it leaves the figures of (f).
+  pub returning-cancelled :
+      printed releasedBook
+      ≡ ascii
+      "call 1 given 1\ncall 2 cancelled 1\nunit 1 10080 3063 3063 7017\nunit 2 1540 468 468 1072\nunit 3 10160 1000 469 9160\naquifer 1 2000 200\n"
 
 -- What the misreadings of (c), (d) and (e) would give.
 case-c-mean : rainTotal uneven ≡ 20 * 8000
@@ -267,4 +283,7 @@ cases-hold =
           ∙ ap (λ (b : Balance). viewOf b .unit 2 .returns) after-cancelled
           ∙ returns-left;
       cancelled-from-the-sum = refl;
+      returning-calls = ap (λ (o : Opened). callsOf returningBook (o .place)) returning-opens ∙ returning-asks;
+      returning = returning-printed;
+      returning-cancelled = released-printed;
     }

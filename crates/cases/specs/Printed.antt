@@ -1,4 +1,4 @@
--- Records as bytes, and the book of document 01 ("One book, printed"). Assumes nothing.
+-- Records as bytes, the book of document 01 ("One book, printed"), and its description with other calls (document 02 [2]). Assumes nothing.
 use Prim.Native.Nat.{ℕ, zero, suc, _-_, _/_, _%_, _^_}
 use mathlib.Core.List.{List, [], _∷_, _++_}
 use lib.IntN.{ℤ, pos, negsuc}
@@ -57,7 +57,7 @@ abbrev pub aquiferBytes : ℤ → ℕ → ℕ → ℕ → ℕ → List ℕ
 aquiferBytes storage natural pumped committed extraction =
     65 ∷ 67 ∷ signedBytes32 storage ++ bytes32 natural ++ bytes32 pumped ++ bytes32 committed ++ bytes32 extraction
 
--- GU: unit, use and volume; GA: aquifer and volume; TA: aquifer, unit and volume.
+-- GU: unit, use and volume; GA: aquifer and volume; TA: aquifer, unit and volume; GW: aquifer, return unit, use and volume; CA: title number.
 abbrev pub grantBytes : ℕ → ℕ → ℕ → List ℕ
 grantBytes unit usage volume = 71 ∷ 85 ∷ unit ∷ usage ∷ bytes32 volume
 
@@ -66,6 +66,12 @@ wellGrantBytes aquifer volume = 71 ∷ 65 ∷ aquifer ∷ bytes32 volume
 
 abbrev pub wellTransferBytes : ℕ → ℕ → ℕ → List ℕ
 wellTransferBytes aquifer unit volume = 84 ∷ 65 ∷ aquifer ∷ unit ∷ bytes32 volume
+
+abbrev pub returningBytes : ℕ → ℕ → ℕ → ℕ → List ℕ
+returningBytes aquifer unit usage volume = 71 ∷ 87 ∷ aquifer ∷ unit ∷ usage ∷ bytes32 volume
+
+abbrev pub cancelBytes : ℕ → List ℕ
+cancelBytes number = 67 ∷ 65 ∷ bytes16 number
 
 -- A unit of 10,000 ha of one cover and soil with twenty years of 800 mm.
 abbrev pub wholeUnit : ℕ → ℕ → ℕ → ℕ → ℕ → List ℕ
@@ -85,3 +91,17 @@ printedCalls = grantBytes 3 1 2000 ++ grantBytes 2 1 2000 ++ wellGrantBytes 1 25
 -- The book: its description and then its calls.
 unfoldable pub printedBook : List ℕ
 printedBook = printedDescription ++ printedCalls
+
+-- The same description with other calls: GW 1 2 2 200; GW 1 2 6 1; GU 2 1 1938; CA 1.
+unfoldable pub returningCalls : List ℕ
+returningCalls = returningBytes 1 2 2 200 ++ returningBytes 1 2 6 1 ++ grantBytes 2 1 1938 ++ cancelBytes 1
+
+unfoldable pub returningBook : List ℕ
+returningBook = printedDescription ++ returningCalls
+
+-- And with the first of them and its cancellation: GW 1 2 2 200; CA 1.
+unfoldable pub releasedCalls : List ℕ
+releasedCalls = returningBytes 1 2 2 200 ++ cancelBytes 1
+
+unfoldable pub releasedBook : List ℕ
+releasedBook = printedDescription ++ releasedCalls

@@ -1,1 +1,1 @@
-// The cases of document 01, and two of rain in tenths, are theorems of the definitions, in specs/; there is no code.
+// The cases of document 01, two of rain in tenths and two of well water that comes back are theorems of the definitions, in specs/; there is no code.

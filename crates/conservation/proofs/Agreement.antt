@@ -111,7 +111,7 @@ replied-exactly none old new n = (λ e. refl, λ e. refl)
 replied-exactly (number k) old new n =
     (λ e. absurd (not-refused k (replied (number k) old new n) refl e), λ e. absurd (true≢false (sym (ap is-none e))))
 
--- On every balance a call is accepted exactly when no refusal that document 01 lists for it applies, 0 included.
+-- On every balance a call is accepted exactly when no refusal that documents 01 and 02 list for it applies, 0 included.
 pub call-accepted-exactly : (b : Balance) (c : Call) → (callReply b c .answer ≡ Accepted) ↔ (afterTest b (callRefusal (viewOf b) c) ≡ none)
 call-accepted-exactly b (Grant x) = replied-exactly (afterTest b (grantRefusal (viewOf b) x)) b (changed b (Grant x)) (carried b (Grant x))
 call-accepted-exactly b (Cancel k) = replied-exactly (afterTest b (cancelRefusal (viewOf b) k)) b (changed b (Cancel k)) k

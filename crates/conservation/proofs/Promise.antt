@@ -15,7 +15,8 @@ use Rattle.laws.proofs.Parts.{equal-parts, Less, less-pos, less-self, less-plus
 use Rattle.model.specs.declared.Answer.the-variants.{Accepted}
 use Rattle.model.specs.declared.Balance.{Balance}
 use Rattle.model.specs.View.{View}
-use Rattle.titles.specs.declared.Slot.the-variants.{Exports, Imports}
+use Rattle.titles.specs.declared.Slot.the-variants.{Exports, Imports, Returns, WellExtraction}
+use Rattle.titles.specs.Adds.{returnOf}
 use Rattle.figures.specs.declared.UnitFigures.{UnitFigures}
 use Rattle.river.specs.Flow.{flow, net, Ready}
 use Rattle.figures.specs.Figures.{noUnitFigures, unitFigures, allUnitFigures, allAquiferFigures}
@@ -29,10 +30,10 @@ use Rattle.record.specs.Described.{noUnit, summed}
 use Rattle.record.specs.Fault.{Closed}
 use Rattle.book.specs.Reading.{Description, read, reading, opened}
 use Rattle.book.proofs.Promises.{units-closed}
-use Rattle.conservation.specs.Demand3.{Tally, start, baseUnit, added, unitEntries, entries, tallied, overUnits, brought, scale, exactMean, times, exactFlow, apart, flowOf, atOrAbove, reported, Demand3, HoldsAlways}
+use Rattle.conservation.specs.Demand3.{Tally, start, baseUnit, baseAquifer, added, unitEntries, aquiferEntries, entries, tallied, overUnits, overAquifers, broughtBy, takenBy, overTitles, scale, exactMean, times, exactFlow, apart, flowOf, atOrAbove, reported, Demand3, HoldsAlways}
 use Rattle.conservation.proofs.Outlets.{outlets-carry, nets-are}
 use Rattle.conservation.proofs.Reserves.{reserves-add-up}
-use Rattle.conservation.proofs.Transfers.{transfers-balance}
+use Rattle.conservation.proofs.Transfers.{transfers-balance, returns-each, wells-each, returns-together, wells-together}
 use Rattle.conservation.proofs.Closeness.{runoff-close, flow-close}
 use Rattle.conservation.proofs.Following.{Follows, follows-start, follows-calls}
 
@@ -80,11 +81,26 @@ module _ (d : Description) (t : Tally) (s : Soundness (entries d t)) where
   exports-are = sum-plus (length (d .units)) (λ j. baseUnit d j .exports) (added t Exports)
 
   imports-are : overUnits d (λ j. unitEntries d t j .imports)
-      ≡ overUnits d (λ j. baseUnit d j .imports) + (overUnits d (added t Exports) + brought (t .place) (t .last))
+      ≡ overUnits d (λ j. baseUnit d j .imports) + (overUnits d (added t Exports) + overTitles t (λ e. broughtBy (e .title)))
   imports-are =
       sum-plus (length (d .units)) (λ j. baseUnit d j .imports) (added t Imports)
       ∙ ap (λ (k : ℕ). overUnits d (λ j. baseUnit d j .imports) + k)
-      (transfers-balance (length (d .units)) (length (d .aquifers)) (t .place) (t .last) (s .place))
+      (transfers-balance (length (d .units)) (length (d .aquifers)) t (s .place))
+
+  -- All returns, and all extractions from aquifers.
+  returns-are : ((k : ℕ) → t .place k .back ≡ returnOf (t .place k .title))
+      → overUnits d (λ j. unitEntries d t j .returns) ≡ overUnits d (λ j. baseUnit d j .returns) + overTitles t (λ e. e .back)
+  returns-are kept =
+      sum-plus (length (d .units)) (λ j. baseUnit d j .returns) (added t Returns)
+      ∙ ap (λ (k : ℕ). overUnits d (λ j. baseUnit d j .returns) + k)
+      (returns-together (length (d .units)) (length (d .aquifers)) t (s .place) kept)
+
+  wells-are : overAquifers d (λ j. aquiferEntries d t j .extraction)
+      ≡ overAquifers d (λ j. baseAquifer d j .extraction) + overTitles t (λ e. takenBy (e .title))
+  wells-are =
+      sum-plus (length (d .aquifers)) (λ j. baseAquifer d j .extraction) (added t WellExtraction)
+      ∙ ap (λ (k : ℕ). overAquifers d (λ j. baseAquifer d j .extraction) + k)
+      (wells-together (length (d .units)) (length (d .aquifers)) t (s .place))
 
   flows-close : ((k : ℕ) → k < length (d .units) → Closed (summed (getD (d .units) k noUnit))) → (j : ℕ) → j < length (d .units)
       → 2 * apart (times scale (flow (entries d t) j)) (exactFlow (entries d t) (λ k. exactMean (getD (d .units) k noUnit)) j)
@@ -97,11 +113,16 @@ module _ (d : Description) (t : Tally) (s : Soundness (entries d t)) where
       runoff-close (gaugedOn (u .plots)) (length (u .years)) (sumOn (u .plots) (u .years)) (c .enough) (c .sane .short) (c .least))
 
   -- Demand 3 holds of the figures over sound entries of a description whose units have 20 to 50 years.
-  figures-hold : ((k : ℕ) → k < length (d .units) → Closed (summed (getD (d .units) k noUnit))) → Demand3 d t (figures d t)
-  figures-hold closed =
+  figures-hold : ((k : ℕ) → t .place k .back ≡ returnOf (t .place k .title))
+      → ((k : ℕ) → k < length (d .units) → Closed (summed (getD (d .units) k noUnit))) → Demand3 d t (figures d t)
+  figures-hold kept closed =
       record {
         defined = refl;
         water = without-transfers _ _ _ _ _ _ _ _ _ _ _ _ _ outlets-are exports-are imports-are (nets-are (length (d .units)) (unitEntries d t));
+        returns = λ j. ap (λ (x : ℕ). baseUnit d j .returns + x) (returns-each t j);
+        all-returns = returns-are kept;
+        wells = λ j. ap (λ (x : ℕ). baseAquifer d j .extraction + x) (wells-each t j);
+        all-wells = wells-are;
         reserves =
             sum-same naturals (length (d .units)) _ _ (λ j h. ap (λ (u : UnitFigures). u .reserve) (figures-at j h))
             ∙ reserves-add-up (entries d t) ready;
@@ -123,4 +144,4 @@ demand-3 s d at e calls =
     let f = follows-calls d (opened s .balance) start (follows-start s d at e) calls in
     let t = tallied d start calls in
     let q = subst (λ (v : View). sound v ≡ true) (f .same) (f .stands) in
-    subst⁻¹ (Demand3 d t) (reported-is d _ t f q) (figures-hold d t (soundness (entries d t) q) (units-closed s d at e))
+    subst⁻¹ (Demand3 d t) (reported-is d _ t f q) (figures-hold d t (soundness (entries d t) q) (f .kept) (units-closed s d at e))

@@ -43,6 +43,15 @@ pub only-zero : (t : Bool) → only naturals t 0 ≡ 0
 only-zero true = refl
 only-zero false = refl
 
+-- The sum of two amounts under one test, and amounts that are equal where the test holds.
+pub only-plus : (t : Bool) (a b : ℕ) → only naturals t (a + b) ≡ only naturals t a + only naturals t b
+only-plus true a b = refl
+only-plus false a b = refl
+
+pub only-same : (t : Bool) (a b : ℕ) → (t ≡ true → a ≡ b) → only naturals t a ≡ only naturals t b
+only-same true a b e = e refl
+only-same false a b e = refl
+
 -- A test that is the same for all terms is made once.
 pub sum-only : (t : Bool) (n : ℕ) (x : ℕ → ℕ) → sumOf naturals n (λ k. only naturals t (x k)) ≡ only naturals t (sumOf naturals n x)
 sum-only true n x = refl

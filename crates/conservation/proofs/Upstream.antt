@@ -15,7 +15,7 @@ use Rattle.river.specs.Flow.{downstream, Ready}
 use Rattle.reach.specs.Reach.{liesBelow}
 use Rattle.reach.proofs.Ways.{Onto, onto, below-none, below-next, below-outlet}
 use Rattle.conservation.specs.Demand3.{atOrAbove}
-use Rattle.conservation.proofs.Sums.{sum-zero, sum-single, sum-swap, sum-only, only-zero, only-is, only-not}
+use Rattle.conservation.proofs.Sums.{sum-zero, sum-single, sum-swap, sum-only, only-zero, only-is, only-not, only-plus}
 
 -- What the units at or above unit j have together.
 abbrev fromAbove : View → (ℕ → ℕ) → ℕ → ℕ
@@ -33,10 +33,6 @@ only-either false t a e = omega arith
 only-first : (s t : Bool) (a : ℕ) → t ≡ false → only naturals (s || t) a ≡ only naturals s a
 only-first true t a e = refl
 only-first false t a e = rw e
-
-only-plus : (t : Bool) (a b : ℕ) → only naturals t (a + b) ≡ only naturals t a + only naturals t b
-only-plus true a b = refl
-only-plus false a b = omega arith
 
 only-here : (t s : Bool) (a : ℕ) → s ≡ true → only naturals t (only naturals s a) ≡ only naturals t a
 only-here t s a e = rw e

@@ -1,4 +1,4 @@
--- Demand 3 (documents 00 and 01): the tally, and the one claim over every list of calls on every accepted book. It is proved in
+-- Demand 3 (documents 00, 01 and 02 [1] and [2]): the tally, and the one claim over every list of calls on every accepted book. It is proved in
 -- proofs/Promise. Units and aquifers are given by their index: number n stands at index n - 1. Assumes nothing.
 use Prim.Native.Nat.{ℕ, zero, suc, pred, _+_, _*_, _/_, _%_, _≤_, _<_}
 use mathlib.Core.Path.{_≡_}
@@ -14,7 +14,7 @@ use Rattle.laws.specs.Table.{putAt}
 use Rattle.model.specs.declared.Unit.{Unit}
 use Rattle.model.specs.declared.Aquifer.{Aquifer}
 use Rattle.model.specs.declared.Title.{Title}
-use Rattle.model.specs.declared.Title.the-variants.{UnitWithdrawal, AquiferWithdrawal, UnitTransfer, AquiferTransfer}
+use Rattle.model.specs.declared.Title.the-variants.{UnitWithdrawal, AquiferWithdrawal, UnitTransfer, AquiferTransfer, ReturningWithdrawal}
 use Rattle.model.specs.declared.Place.{Place}
 use Rattle.model.specs.declared.Call.{Call}
 use Rattle.model.specs.declared.Call.the-variants.{Grant, Cancel}
@@ -34,6 +34,7 @@ use Rattle.figures.specs.Figures.{noUnitFigures, allUnitFigures, allAquiferFigu
 use Rattle.basin.specs.declared.Figures.{Figures}
 use Rattle.basin.specs.Figures.{figuresReply}
 use Rattle.reach.specs.Reach.{liesBelow}
+use Rattle.refusal.specs.Steps.{givingAquifer}
 use Rattle.record.specs.Described.{DescribedUnit, noUnit, unitOf}
 use Rattle.book.specs.Reading.{Description}
 use Rattle.register.specs.Calls.{callRefusal, after}
@@ -121,9 +122,15 @@ unfoldable pub tallied : Description → Tally → List Call → Tally
 tallied d t [] = t
 tallied d t (c ∷ cs) = tallied d (unlessRefused (tallyRefusal d t c) t c) cs
 
--- Sums run over all units.
+-- Sums run over all units, over all aquifers, and over the titles in force.
 abbrev pub overUnits : Description → (ℕ → ℕ) → ℕ
 overUnits d x = sumOf naturals (length (d .units)) x
+
+abbrev pub overAquifers : Description → (ℕ → ℕ) → ℕ
+overAquifers d x = sumOf naturals (length (d .aquifers)) x
+
+abbrev pub overTitles : Tally → (Entered → ℕ) → ℕ
+overTitles t x = sumOf naturals (t .last) (λ k. only naturals (t .place k .inForce) (x (t .place k)))
 
 -- Water brought from aquifers: the volumes of the transfers from aquifers in force.
 abbrev pub broughtBy : Title → ℕ
@@ -131,9 +138,23 @@ broughtBy (UnitWithdrawal u r x) = 0
 broughtBy (AquiferWithdrawal a x) = 0
 broughtBy (UnitTransfer g r x) = 0
 broughtBy (AquiferTransfer a u x) = x
+broughtBy (ReturningWithdrawal a u r x) = 0
 
-abbrev pub brought : (ℕ → Entered) → ℕ → ℕ
-brought place n = sumOf naturals n (λ k. only naturals (place k .inForce) (broughtBy (place k .title)))
+-- Water taken from aquifers: the whole volume of each title whose water an aquifer gives.
+abbrev pub takenBy : Title → ℕ
+takenBy (UnitWithdrawal u r x) = 0
+takenBy (AquiferWithdrawal a x) = x
+takenBy (UnitTransfer g r x) = 0
+takenBy (AquiferTransfer a u x) = x
+takenBy (ReturningWithdrawal a u r x) = x
+
+-- The number of the unit that the return of a title goes to, 0 where nothing returns.
+abbrev pub returnUnit : Title → ℕ
+returnUnit (UnitWithdrawal u r x) = u
+returnUnit (AquiferWithdrawal a x) = 0
+returnUnit (UnitTransfer g r x) = 0
+returnUnit (AquiferTransfer a u x) = 0
+returnUnit (ReturningWithdrawal a u r x) = u
 
 -- The units at or above unit j are j and all that j lies below.
 abbrev pub atOrAbove : View → ℕ → ℕ → Bool
@@ -210,7 +231,18 @@ pub record Demand3 (d : Description) (t : Tally) (f : Figures) : Type 0 where
       ≡ pos (overUnits d (λ j. baseUnit d j .runoff))
       +ℤ pos (overUnits d (λ j. unitEntries d t j .returns))
       +ℤ pos (overUnits d (λ j. baseUnit d j .imports))
-      +ℤ pos (brought (t .place) (t .last))
+      +ℤ pos (overTitles t (λ e. broughtBy (e .title)))
+  -- Each unit's returns are its base ones and those of the titles in force that return to it, and no title's return is left out.
+  pub returns : (j : ℕ)
+      → unitEntries d t j .returns ≡ baseUnit d j .returns + overTitles t (λ e. only naturals (eqb (returnUnit (e .title)) (suc j)) (e .back))
+  pub all-returns : overUnits d (λ j. unitEntries d t j .returns) ≡ overUnits d (λ j. baseUnit d j .returns) + overTitles t (λ e. e .back)
+  -- Each aquifer loses the whole volumes of the titles in force whose water it gives, and no such title is left out.
+  pub wells : (j : ℕ)
+      → aquiferEntries d t j .extraction
+      ≡ baseAquifer d j .extraction + overTitles t (λ e. only naturals (eqb (givingAquifer (e .title)) (suc j)) (takenBy (e .title)))
+  pub all-wells :
+      overAquifers d (λ j. aquiferEntries d t j .extraction)
+      ≡ overAquifers d (λ j. baseAquifer d j .extraction) + overTitles t (λ e. takenBy (e .title))
   -- All the units' own reserves together equal those extractions and all exports in force plus the outlet commitments.
   pub reserves :
       overUnits d (λ j. reserveOf f j)

@@ -15,7 +15,7 @@ use Rattle.model.specs.declared.Unit.{Unit}
 use Rattle.model.specs.declared.Aquifer.{Aquifer}
 use Rattle.model.specs.declared.Place.{Place}
 use Rattle.model.specs.declared.Title.{Title}
-use Rattle.model.specs.declared.Title.the-variants.{UnitWithdrawal, UnitTransfer, AquiferTransfer}
+use Rattle.model.specs.declared.Title.the-variants.{UnitWithdrawal, UnitTransfer, AquiferTransfer, ReturningWithdrawal}
 use Rattle.model.specs.declared.Balance.{Balance}
 use Rattle.model.specs.Entries.{withEntries, withExtraction, placeOf}
 use Rattle.model.specs.Fresh.{emptyUnit, emptyAquifer, emptyPlace}
@@ -71,6 +71,11 @@ module _ (op : ℕ → ℕ → ℕ) (neutral : (e : ℕ) → op e 0 ≡ e) where
       → set us (u - 1) (changedBy op (getD us (u - 1) emptyUnit) 0 0 v 0) ≡ changedUnits op (AquiferTransfer a u v) back us
   bringing-changed us a u v back h =
       unit-at us u 0 0 v 0 h ∙ (λ i. indexed (λ k w. changedBy op w (none u k i) (none u k i) (posts (post u v) k) (none u k i)) us)
+
+  pub returning-changed : (us : List Unit) (a u r v back : ℕ) → 0 < u
+      → set us (u - 1) (changedBy op (getD us (u - 1) emptyUnit) 0 0 0 back) ≡ changedUnits op (ReturningWithdrawal a u r v) back us
+  returning-changed us a u r v back h =
+      unit-at us u 0 0 0 back h ∙ (λ i. indexed (λ k w. changedBy op w (none u k i) (none u k i) (none u k i) (posts (post u back) k)) us)
 
   pub transfer-changed : (us : List Unit) (g r v back : ℕ) → 0 < g → 0 < r
       → let given = set us (g - 1) (changedBy op (getD us (g - 1) emptyUnit) 0 v 0 0) in

@@ -8,11 +8,11 @@ use native.Mathlib.Numerals.{sub-one}
 use borrow.Author.Tests.{eq-eqb, ne-eqb}
 use Rattle.model.specs.declared.Unit.{Unit}
 use Rattle.model.specs.declared.Aquifer.{Aquifer}
-use Rattle.model.specs.declared.Title.the-variants.{UnitWithdrawal, UnitTransfer, AquiferTransfer}
+use Rattle.model.specs.declared.Title.the-variants.{UnitWithdrawal, UnitTransfer, AquiferTransfer, ReturningWithdrawal}
 use Rattle.model.specs.Fresh.{emptyUnit, emptyAquifer}
 use Rattle.titles.specs.Posting.{Posting, nothing, post, posts, Postings}
 use Rattle.titles.specs.Adds.{returned}
-use Rattle.effect.specs.Room.{There, Names, Takes, UnitsTake, WellsTake, UnitArrayTakes, Leaves}
+use Rattle.effect.specs.Room.{There, Takes, UnitsTake, WellsTake, UnitArrayTakes, Leaves}
 
 -- A posting adds its amount at the index of its number, and nothing elsewhere.
 pub here : (n a : ℕ) → 0 < n → posts (post n a) (pred n) ≡ a
@@ -26,11 +26,6 @@ module _ (left : ℕ → ℕ) (entry : ℕ → ℕ) where
   pub takes-past : (count : ℕ) (p : Posting) → Takes left count entry p → (k : ℕ) → count ≤ k → posts p k ≡ 0
   takes-past count nothing h k g = refl
   takes-past count (post n a) h k g = elsewhere n a k (λ e. omega (arith, h .1))
-
-  -- What is posted is there.
-  takes-there : (count : ℕ) (p : Posting) → Takes left count entry p → There count p
-  takes-there count nothing h = h
-  takes-there count (post n a) h = (h .0, h .1)
 
   -- More of them take it too.
   takes-more : (count more : ℕ) (p : Posting) → count ≤ more → Takes left count entry p → Takes left more entry p
@@ -50,17 +45,6 @@ module _ (left : ℕ → ℕ) (unit : ℕ → Unit) (p : Postings) where
         exports = takes-more left (λ k. unit k .exports) count more (p .exports) g (h .exports);
         imports = takes-more left (λ k. unit k .imports) count more (p .imports) g (h .imports);
         returns = takes-more left (λ k. unit k .returns) count more (p .returns) g (h .returns);
-      }
-
-  -- What units and aquifers take is there.
-  pub names-of : (aquifer : ℕ → Aquifer) (units aquifers : ℕ) → UnitsTake left units unit p → WellsTake left aquifers aquifer p → Names units aquifers p
-  names-of aquifer units aquifers h w =
-      record {
-        extraction = takes-there left (λ k. unit k .extraction) units (p .extraction) (h .extraction);
-        exports = takes-there left (λ k. unit k .exports) units (p .exports) (h .exports);
-        imports = takes-there left (λ k. unit k .imports) units (p .imports) (h .imports);
-        returns = takes-there left (λ k. unit k .returns) units (p .returns) (h .returns);
-        wells = takes-there left (λ k. aquifer k .extraction) aquifers (p .wells) w;
       }
 
 pub wells-more : (left : ℕ → ℕ) (aquifer : ℕ → Aquifer) (p : Postings) (count more : ℕ) → count ≤ more
@@ -113,6 +97,14 @@ module _ (left : ℕ → ℕ) (us : List Unit) where
       rw (sub-one u) (
         omega (arith, f .imports .0, f .imports .1),
         record { of-extraction = zero-le; of-exports = zero-le; of-imports = f .imports .2; of-returns = zero-le },
+      )
+
+  pub returning-leaves : (a u r v : ℕ) → UnitArrayTakes left (ReturningWithdrawal a u r v) us
+      → (u - 1 < 64) × Leaves left (getD us (u - 1) emptyUnit) 0 0 0 (returned r v)
+  returning-leaves a u r v f =
+      rw (sub-one u) (
+        omega (arith, f .returns .0, f .returns .1),
+        record { of-extraction = zero-le; of-exports = zero-le; of-imports = zero-le; of-returns = f .returns .2 },
       )
 
 -- The same of the aquifers.

@@ -1,4 +1,5 @@
--- A title taken back: every entry lowered by exactly what the title added, and its place kept (document 01, "Titles"). Assumes nothing.
+-- A title taken back: every entry lowered by exactly what the title added, and its place kept (document 01, "Titles"; document 02 [2]).
+-- Assumes nothing.
 use Prim.Native.Nat.{ℕ, pred, _-_}
 use mathlib.Core.Bool.{false}
 use mathlib.Core.List.{List}

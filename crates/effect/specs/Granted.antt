@@ -1,4 +1,4 @@
--- A title put in: the entries that it raises, its place and its number (document 01, "Titles"). Assumes nothing.
+-- A title put in: the entries that it raises, its place and its number (document 01, "Titles"; document 02 [2]). Assumes nothing.
 use Prim.Native.Nat.{ℕ, suc, _+_, _-_, _<_}
 use mathlib.Core.Path.{_≡_}
 use mathlib.Core.Bool.{true}

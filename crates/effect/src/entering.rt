@@ -82,6 +82,15 @@ pub fn raised_units(units: [Unit; Balance::UNITS], t: Title) -> [Unit; Balance::
             unit,
             volume,
         } => raised_at(units, (unit as usize) - 1, 0, 0, volume, 0),
+        Title::ReturningWithdrawal {
+            aquifer: _,
+            unit,
+            usage,
+            volume,
+        } => {
+            let back = titles::returned(usage, volume);
+            raised_at(units, (unit as usize) - 1, 0, 0, 0, back)
+        }
     }
 }
 
@@ -112,6 +121,12 @@ pub fn raised_wells(
         Title::AquiferTransfer {
             aquifer,
             unit: _,
+            volume,
+        } => raised_well(aquifers, (aquifer as usize) - 1, volume),
+        Title::ReturningWithdrawal {
+            aquifer,
+            unit: _,
+            usage: _,
             volume,
         } => raised_well(aquifers, (aquifer as usize) - 1, volume),
     }

@@ -83,6 +83,15 @@ pub fn lowered_units(units: [Unit; Balance::UNITS], t: Title) -> [Unit; Balance:
             unit,
             volume,
         } => lowered_at(units, (unit as usize) - 1, 0, 0, volume, 0),
+        Title::ReturningWithdrawal {
+            aquifer: _,
+            unit,
+            usage,
+            volume,
+        } => {
+            let back = titles::returned(usage, volume);
+            lowered_at(units, (unit as usize) - 1, 0, 0, 0, back)
+        }
     }
 }
 
@@ -110,6 +119,12 @@ fn lowered_wells(aquifers: [Aquifer; Balance::AQUIFERS], t: Title) -> [Aquifer; 
         Title::AquiferTransfer {
             aquifer,
             unit: _,
+            volume,
+        } => lowered_well(aquifers, (aquifer as usize) - 1, volume),
+        Title::ReturningWithdrawal {
+            aquifer,
+            unit: _,
+            usage: _,
             volume,
         } => lowered_well(aquifers, (aquifer as usize) - 1, volume),
     }

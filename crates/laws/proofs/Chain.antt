@@ -1,6 +1,6 @@
 -- First match wins: how a return of a chain of tests meets the chain of the definition. Use as `search chain depth 16`. Assumes nothing.
 use Prim.Native.Nat.{ℕ, _≤_, _<_}
-use mathlib.Core.Path.{_≡_, sym, _∙_}
+use mathlib.Core.Path.{_≡_, refl, sym, _∙_}
 use mathlib.Core.Bool.{Bool, true, false, cond, not, _&&_, _||_}
 use lib.Dec.{eqb, ltb, leb}
 use borrow.Author.Tests.{lt-ltb, le-ltb, le-leb, lt-leb, eq-eqb, ne-eqb}
@@ -64,6 +64,11 @@ is-true t e = sym e
 pub is-false : (t : Bool) → t ≡ false → false ≡ t
 is-false t e = sym e
 
+-- A test that always fails adds nothing to a disjunction.
+pub or-none : (t : Bool) → t ≡ t || false
+or-none true = refl
+or-none false = refl
+
 -- A conjunction of tests.
 pub t-and : (t u : Bool) → t ≡ true → u ≡ true → t && u ≡ true
 t-and t u e q = rw e q
@@ -76,6 +81,6 @@ f-and-on t u e q = rw e q
 
 pub ruleset chain = (hit, miss, t-lt, f-lt, t-le, f-le, t-eq, f-eq, t-of, f-of)
 
-pub ruleset conjunction = (and-no, and-on, or-yes, or-on, is-true, is-false, t-lt, f-lt, t-le, f-le, t-eq, f-eq, t-of, f-of, t-not, f-not)
+pub ruleset conjunction = (and-no, and-on, is-true, is-false, t-lt, f-lt, t-le, f-le, t-eq, f-eq, t-of, f-of, t-not, f-not)
 
 pub ruleset disjunction = (or-yes, or-on, t-lt, f-lt, t-le, f-le, t-eq, f-eq, t-of, f-of)

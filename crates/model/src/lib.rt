@@ -25,12 +25,34 @@ pub struct Aquifer {
     pub extraction: u32,
 }
 
-// A title is one of four kinds: a withdrawal from a unit or an aquifer, a transfer from a unit or an aquifer.
+// A title is one of five kinds: a withdrawal from a unit or an aquifer, a transfer from a unit or an aquifer, and a withdrawal from an
+// aquifer whose return goes to a unit (document 02 [2]).
 pub enum Title {
-    UnitWithdrawal { unit: u8, usage: u8, volume: u32 },
-    AquiferWithdrawal { aquifer: u8, volume: u32 },
-    UnitTransfer { from: u8, to: u8, volume: u32 },
-    AquiferTransfer { aquifer: u8, unit: u8, volume: u32 },
+    UnitWithdrawal {
+        unit: u8,
+        usage: u8,
+        volume: u32,
+    },
+    AquiferWithdrawal {
+        aquifer: u8,
+        volume: u32,
+    },
+    UnitTransfer {
+        from: u8,
+        to: u8,
+        volume: u32,
+    },
+    AquiferTransfer {
+        aquifer: u8,
+        unit: u8,
+        volume: u32,
+    },
+    ReturningWithdrawal {
+        aquifer: u8,
+        unit: u8,
+        usage: u8,
+        volume: u32,
+    },
 }
 
 // A place of the register: a title, and whether it is in force.
@@ -55,7 +77,7 @@ pub enum Answer {
     Refused(u8),
 }
 
-// What a call asks: a title to be granted (GU, GA, TU, TA), or the number of a title to be cancelled (CA).
+// What a call asks: a title to be granted (GU, GA, TU, TA, GW), or the number of a title to be cancelled (CA).
 pub enum Call {
     Grant { title: Title },
     Cancel { number: u16 },

@@ -11,7 +11,8 @@ use Rattle.record.specs.declared.CallMark.{CallMark}
 use Rattle.record.specs.declared.CallAt.{CallAt}
 use Rattle.record.specs.declared.CallAt.the-variants.{End, Fails, Asks}
 use Rattle.record.specs.Bytes.{bits8}
-use Rattle.record.specs.Calls.{callMark, wholeCall, callMarked, callAt}
+use Rattle.record.specs.Record.{callMark}
+use Rattle.record.specs.Calls.{wholeCall, callMarked, callAt}
 
 -- A call's record: fewer bytes left than its own, or the call.
 pub call-short : (s : List ℕ) (at size : ℕ) (c : Call) → length s - at < size → Fails 1 ≡ wholeCall s at size c

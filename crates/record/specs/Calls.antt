@@ -1,37 +1,27 @@
--- The records of the calls (document 01, "The book"): what stands after the description. Assumes nothing.
+-- The records of the calls (document 01, "The book"; document 02 [2]): what stands after the description. Assumes nothing.
 use Prim.Native.Nat.{ℕ, zero, suc, _+_, _-_}
 use mathlib.Core.Bool.{cond}
 use mathlib.Core.List.{List, [], _∷_}
 use lib.Dec.{eqb, ltb}
 use lib.ListN.{length}
-use Rattle.model.specs.declared.Title.the-variants.{UnitWithdrawal, AquiferWithdrawal, UnitTransfer, AquiferTransfer}
+use Rattle.model.specs.declared.Title.the-variants.{UnitWithdrawal, AquiferWithdrawal, UnitTransfer, AquiferTransfer, ReturningWithdrawal}
 use Rattle.model.specs.declared.Call.{Call}
 use Rattle.model.specs.declared.Call.the-variants.{Grant, Cancel}
 use Rattle.record.specs.declared.CallMark.{CallMark}
-use Rattle.record.specs.declared.CallMark.the-variants.{Gu, Ga, Tu, Ta, Ca, None}
+use Rattle.record.specs.declared.CallMark.the-variants.{Gu, Ga, Tu, Ta, Gw, Ca, None}
 use Rattle.record.specs.declared.CallAt.{CallAt}
 use Rattle.record.specs.declared.CallAt.the-variants.{End, Fails, Asks}
 use Rattle.record.specs.declared.Ending.{Ending}
 use Rattle.record.specs.declared.Ending.the-variants.{Finished, Failed}
 use Rattle.record.specs.Bytes.{bits8, bits16, bits32}
-use Rattle.record.specs.Record.{spells}
-
--- The marks of the calls, in ASCII: GU, GA, TU, TA, CA.
-abbrev pub callMark : ℕ → ℕ → CallMark
-callMark a b =
-    cond (spells a b 71 85) Gu
-    (cond (spells a b 71 65) Ga
-    (cond (spells a b 84 85) Tu
-    (cond (spells a b 84 65) Ta
-    (cond (spells a b 67 65) Ca
-    None))))
+use Rattle.record.specs.Record.{callMark}
 
 -- 1 fewer bytes left than the record's mark and body; otherwise the call and the offset of the next record.
 abbrev pub wholeCall : List ℕ → ℕ → ℕ → Call → CallAt
 wholeCall s at size c = cond (ltb (length s - at) size) (Fails 1) (Asks c (at + size))
 
--- GU (unit, use, volume), GA (aquifer, volume), TU (from unit, to unit, volume), TA (aquifer, unit, volume) and CA (title number). Units,
--- aquifers and uses are 8 bits, volumes 32, a title number 16.
+-- GU (unit, use, volume), GA (aquifer, volume), TU (from unit, to unit, volume), TA (aquifer, unit, volume), GW (aquifer, return unit, use,
+-- volume) and CA (title number). Units, aquifers and uses are 8 bits, volumes 32, a title number 16.
 abbrev pub withdrawalAt : List ℕ → ℕ → CallAt
 withdrawalAt s at = wholeCall s at 8 (Grant (UnitWithdrawal (bits8 s (at + 2)) (bits8 s (at + 3)) (bits32 s (at + 4))))
 
@@ -44,6 +34,11 @@ transferAt s at = wholeCall s at 8 (Grant (UnitTransfer (bits8 s (at + 2)) (bits
 abbrev pub bringingAt : List ℕ → ℕ → CallAt
 bringingAt s at = wholeCall s at 8 (Grant (AquiferTransfer (bits8 s (at + 2)) (bits8 s (at + 3)) (bits32 s (at + 4))))
 
+abbrev pub returningAt : List ℕ → ℕ → CallAt
+returningAt s at =
+    wholeCall s at 9
+    (Grant (ReturningWithdrawal (bits8 s (at + 2)) (bits8 s (at + 3)) (bits8 s (at + 4)) (bits32 s (at + 5))))
+
 abbrev pub cancellationAt : List ℕ → ℕ → CallAt
 cancellationAt s at = wholeCall s at 4 (Cancel (bits16 s (at + 2)))
 
@@ -53,6 +48,7 @@ callMarked Gu s at = withdrawalAt s at
 callMarked Ga s at = pumpingAt s at
 callMarked Tu s at = transferAt s at
 callMarked Ta s at = bringingAt s at
+callMarked Gw s at = returningAt s at
 callMarked Ca s at = cancellationAt s at
 callMarked None s at = Fails 2
 

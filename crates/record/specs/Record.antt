@@ -1,6 +1,6 @@
--- The records of a description (document 01, "The book"; document 02 [1]). Assumes nothing.
+-- The marks of a book and the records of a description (document 01, "The book"; document 02 [1] and [2]). Assumes nothing.
 use Prim.Native.Nat.{ℕ, _+_}
-use mathlib.Core.Bool.{Bool, cond, _&&_, _||_}
+use mathlib.Core.Bool.{Bool, true, false, cond, _&&_}
 use mathlib.Core.List.{List}
 use lib.Dec.{eqb}
 use lib.IntN.{ℤ, pos, _+ℤ_}
@@ -12,15 +12,37 @@ use Rattle.model.specs.declared.Aquifer.{Aquifer}
 use Rattle.record.specs.declared.UnitRecord.{UnitRecord}
 use Rattle.record.specs.declared.Mark.{Mark}
 use Rattle.record.specs.declared.Mark.the-variants.{Un, Su, Pr, Pd, Af, Ac, Call, Unknown}
+use Rattle.record.specs.declared.CallMark.{CallMark}
+use Rattle.record.specs.declared.CallMark.the-variants.{Gu, Ga, Tu, Ta, Gw, Ca, None}
 use Rattle.record.specs.Bytes.{bits8, bits32, signedBits32}
 
 -- The two letters stand at the two bytes.
 abbrev pub spells : ℕ → ℕ → ℕ → ℕ → Bool
 spells a b x y = eqb a x && eqb b y
 
--- The marks of the calls, in ASCII: GU, GA, TU, TA, CA.
+-- The marks of the calls, in ASCII: GU, GA, TU, TA, GW, CA.
+abbrev pub callMark : ℕ → ℕ → CallMark
+callMark a b =
+    cond (spells a b 71 85) Gu
+    (cond (spells a b 71 65) Ga
+    (cond (spells a b 84 85) Tu
+    (cond (spells a b 84 65) Ta
+    (cond (spells a b 71 87) Gw
+    (cond (spells a b 67 65) Ca
+    None)))))
+
+-- The two bytes are one of them.
+abbrev pub marksCall : CallMark → Bool
+marksCall Gu = true
+marksCall Ga = true
+marksCall Tu = true
+marksCall Ta = true
+marksCall Gw = true
+marksCall Ca = true
+marksCall None = false
+
 abbrev pub isCall : ℕ → ℕ → Bool
-isCall a b = spells a b 71 85 || (spells a b 71 65 || (spells a b 84 85 || (spells a b 84 65 || spells a b 67 65)))
+isCall a b = marksCall (callMark a b)
 
 -- The marks: PR, AF, PD, SU, UN and AC of a description, and those of the calls.
 abbrev pub markOf : ℕ → ℕ → Mark

@@ -8,31 +8,9 @@ use crate::CallMark;
 use crate::bytes::bits8;
 use crate::bytes::bits16;
 use crate::bytes::bits32;
-use crate::fields::spells;
+use crate::fields::call_mark;
 use model::Call;
 use model::Title;
-
-// The call that two bytes are the mark of, if they are.
-fn call_mark(a: u8, b: u8) -> CallMark
-    ensures { λ r. ⌜ r ≡ calls.callMark a b ⌝ }
-{
-    if spells(a, b, 71, 85) {
-        return CallMark::Gu;
-    }
-    if spells(a, b, 71, 65) {
-        return CallMark::Ga;
-    }
-    if spells(a, b, 84, 85) {
-        return CallMark::Tu;
-    }
-    if spells(a, b, 84, 65) {
-        return CallMark::Ta;
-    }
-    if spells(a, b, 67, 65) {
-        return CallMark::Ca;
-    }
-    CallMark::None
-}
 
 // GU: a withdrawal from a unit.
 fn withdrawal_at(s: &[u8], at: usize) -> CallAt
@@ -109,6 +87,26 @@ fn bringing_at(s: &[u8], at: usize) -> CallAt
     }
 }
 
+// GW: a withdrawal from an aquifer whose return goes to a unit.
+fn returning_at(s: &[u8], at: usize) -> CallAt
+    requires { ⌜ at ≤ length (now s) ⌝ }
+    ensures { λ r. ⌜ r ≡ calls.returningAt (now (s .entry)) at ⌝ }
+{
+    if s.len() - at < 9 {
+        return CallAt::Fails { number: 1 };
+    }
+    let title = Title::ReturningWithdrawal {
+        aquifer: bits8(s, at + 2),
+        unit: bits8(s, at + 3),
+        usage: bits8(s, at + 4),
+        volume: bits32(s, at + 5),
+    };
+    CallAt::Asks {
+        call: Call::Grant { title },
+        to: at + 9,
+    }
+}
+
 // CA: a cancellation.
 fn cancellation_at(s: &[u8], at: usize) -> CallAt
     requires { ⌜ at ≤ length (now s) ⌝ }
@@ -141,6 +139,7 @@ pub fn call_at(s: &[u8], at: usize) -> CallAt
         CallMark::Ga => pumping_at(s, at),
         CallMark::Tu => transfer_at(s, at),
         CallMark::Ta => bringing_at(s, at),
+        CallMark::Gw => returning_at(s, at),
         CallMark::Ca => cancellation_at(s, at),
         CallMark::None => CallAt::Fails { number: 2 },
     }

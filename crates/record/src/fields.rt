@@ -1,4 +1,4 @@
-// The records of a description.
+// The marks of a book and the records of a description.
 ghost use mathlib.Core.Path.{_≡_};
 ghost use mathlib.Core.Bool.{true, false};
 ghost use Prim.Native.Nat.{_+_, _≤_};
@@ -7,6 +7,7 @@ ghost use Rattle.runoff.specs.Soil.{Known};
 ghost use Rattle.record.specs.Bytes.{signedBits32};
 ghost use Rattle.record.specs.Record as records;
 ghost use Rattle.record.specs.Fault.{Sane, Closed, YearRange, gaugeOutsideAt};
+use crate::CallMark;
 use crate::Mark;
 use crate::UnitRecord;
 use crate::bytes::bits8;
@@ -16,7 +17,7 @@ use model::Aquifer;
 use model::Unit;
 
 // The two letters stand at the two bytes.
-pub fn spells(a: u8, b: u8, x: u8, y: u8) -> bool
+fn spells(a: u8, b: u8, x: u8, y: u8) -> bool
     ensures { λ r. ⌜ r ≡ records.spells a b x y ⌝ }
 {
     if a != x {
@@ -25,23 +26,44 @@ pub fn spells(a: u8, b: u8, x: u8, y: u8) -> bool
     b == y
 }
 
-// The two bytes are a call's mark.
-pub fn is_call(a: u8, b: u8) -> bool
-    ensures { λ r. ⌜ r ≡ records.isCall a b ⌝ }
+// The call that two bytes are the mark of, if they are.
+pub(crate) fn call_mark(a: u8, b: u8) -> CallMark
+    ensures { λ r. ⌜ r ≡ records.callMark a b ⌝ }
 {
     if spells(a, b, 71, 85) {
-        return true;
+        return CallMark::Gu;
     }
     if spells(a, b, 71, 65) {
-        return true;
+        return CallMark::Ga;
     }
     if spells(a, b, 84, 85) {
-        return true;
+        return CallMark::Tu;
     }
     if spells(a, b, 84, 65) {
-        return true;
+        return CallMark::Ta;
     }
-    spells(a, b, 67, 65)
+    if spells(a, b, 71, 87) {
+        return CallMark::Gw;
+    }
+    if spells(a, b, 67, 65) {
+        return CallMark::Ca;
+    }
+    CallMark::None
+}
+
+// The two bytes are a call's mark.
+fn is_call(a: u8, b: u8) -> bool
+    ensures { λ r. ⌜ r ≡ records.isCall a b ⌝ }
+{
+    match call_mark(a, b) {
+        CallMark::Gu => true,
+        CallMark::Ga => true,
+        CallMark::Tu => true,
+        CallMark::Ta => true,
+        CallMark::Gw => true,
+        CallMark::Ca => true,
+        CallMark::None => false,
+    }
 }
 
 // The mark that two bytes are.

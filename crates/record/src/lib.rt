@@ -60,6 +60,7 @@ pub enum CallMark {
     Ga,
     Tu,
     Ta,
+    Gw,
     Ca,
     None,
 }

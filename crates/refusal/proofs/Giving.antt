@@ -8,7 +8,7 @@ use Rattle.laws.specs.Sum.{every}
 use Rattle.model.specs.declared.Aquifer.{Aquifer}
 use Rattle.model.specs.declared.Place.{Place}
 use Rattle.model.specs.declared.Title.{Title}
-use Rattle.model.specs.declared.Title.the-variants.{UnitWithdrawal, AquiferWithdrawal, UnitTransfer, AquiferTransfer}
+use Rattle.model.specs.declared.Title.the-variants.{UnitWithdrawal, AquiferWithdrawal, UnitTransfer, AquiferTransfer, ReturningWithdrawal}
 use Rattle.model.specs.Fresh.{emptyPlace}
 use Rattle.model.specs.View.{View}
 use Rattle.river.proofs.Units.{alone}
@@ -50,6 +50,7 @@ early-untitled v (UnitWithdrawal u r x) = refl
 early-untitled v (AquiferWithdrawal a x) = refl
 early-untitled v (UnitTransfer g r x) = transfer-others v (v .aquifers) (v .aquifer) (λ k. emptyPlace) g r x
 early-untitled v (AquiferTransfer a u x) = refl
+early-untitled v (ReturningWithdrawal a u r x) = refl
 
 -- Nor does 17 depend on them.
 pub water-untitled : (v : View) (given : ℕ) (t : Title) → noWater (untitled v given) t ≡ noWater v t
@@ -57,6 +58,7 @@ water-untitled v given (UnitWithdrawal u r x) = sym (dry-alone (untitled v given
 water-untitled v given (AquiferWithdrawal a x) = refl
 water-untitled v given (UnitTransfer g r x) = sym (dry-alone (untitled v given) (pred g)) ∙ dry-alone v (pred g)
 water-untitled v given (AquiferTransfer a u x) = refl
+water-untitled v given (ReturningWithdrawal a u r x) = refl
 
 -- Where a unit gives, it is there, and there is no water where its basin is dry.
 pub record UnitGives (v : View) (t : Title) : Type 0 where
@@ -68,6 +70,7 @@ unit-gives v (UnitWithdrawal u r x) n h = record { within = n .extraction .1; wa
 unit-gives v (AquiferWithdrawal a x) n h = absurd (omega arith)
 unit-gives v (UnitTransfer g r x) n h = record { within = n .exports .1; water = refl }
 unit-gives v (AquiferTransfer a u x) n h = absurd (omega arith)
+unit-gives v (ReturningWithdrawal a u r x) n h = absurd (omega arith)
 
 -- Where an aquifer gives, it is there, and there is no water where it is drained.
 pub record AquiferGives (v : View) (t : Title) : Type 0 where
@@ -80,3 +83,4 @@ aquifer-gives v (UnitWithdrawal u r x) n h = absurd (h (n .extraction .0))
 aquifer-gives v (AquiferWithdrawal a x) n h = record { positive = n .wells .0; within = n .wells .1; water = refl }
 aquifer-gives v (UnitTransfer g r x) n h = absurd (h (n .exports .0))
 aquifer-gives v (AquiferTransfer a u x) n h = record { positive = n .wells .0; within = n .wells .1; water = refl }
+aquifer-gives v (ReturningWithdrawal a u r x) n h = record { positive = n .wells .0; within = n .wells .1; water = refl }

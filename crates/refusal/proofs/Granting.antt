@@ -8,20 +8,19 @@ use borrow.Author.Tests.{ltb-false, leb-false, eq-eqb, ne-eqb}
 use Rattle.laws.proofs.Cases.{by-eq}
 use Rattle.laws.proofs.Every.{both, neither}
 use Rattle.model.specs.declared.Title.{Title}
-use Rattle.model.specs.declared.Title.the-variants.{UnitWithdrawal, AquiferWithdrawal, UnitTransfer, AquiferTransfer}
+use Rattle.model.specs.declared.Title.the-variants.{UnitWithdrawal, AquiferWithdrawal, UnitTransfer, AquiferTransfer, ReturningWithdrawal}
 use Rattle.model.specs.View.{View}
 use Rattle.model.specs.Limits.{termLimit}
 use Rattle.model.specs.Answers.{Refusal, none, number, refuse}
 use Rattle.titles.specs.Posting.{Posting, nothing, post, posts, postings}
-use Rattle.titles.specs.Adds.{returned, returnOf}
+use Rattle.titles.specs.Adds.{returnOf}
 use Rattle.river.specs.Flow.{Ready}
 use Rattle.figures.specs.Figures.{WellsReady}
 use Rattle.basin.specs.Sound.{exists, isVolume}
 use Rattle.basin.proofs.Soundness.{UnitSound, AquiferSound, Exists, Volume, TitleSound, Soundness, number-exists, is-volume, ready-of, wells-ready-of}
-use Rattle.effect.specs.Room.{Takes, UnitsTake, WellsTake}
+use Rattle.effect.specs.Room.{There, Names, Takes, UnitsTake, WellsTake}
 use Rattle.effect.specs.Granted.{granted, Named, lacking}
-use Rattle.effect.proofs.Taking.{names-of}
-use Rattle.refusal.specs.Grant.{overfull, past, downstreamTransfer, noWater, grantRefusal}
+use Rattle.refusal.specs.Grant.{overfills, overfull, downstreamTransfer, noWater, grantRefusal}
 use Rattle.refusal.specs.Steps.{volumeNumber, earlyNumber}
 
 -- The early refusals and the grant's: under its number, or what follows.
@@ -59,6 +58,9 @@ grant-judged v (UnitTransfer g r x) =
 grant-judged v (AquiferTransfer a u x) =
     one-judged (exists (v .aquifers) a && exists (v .units) u) _ _ _
     (volume-judged (isVolume x) (leb 256 (v .given)) (overfull v (AquiferTransfer a u x)) _)
+grant-judged v (ReturningWithdrawal a u r x) =
+    one-judged (exists (v .aquifers) a && exists (v .units) u) _ _ _
+    (use-judged (exists 7 r) _ _ _ (volume-judged (isVolume x) (leb 256 (v .given)) (overfull v (ReturningWithdrawal a u r x)) _))
 
 -- A number that is 0 was given by no test.
 held : (t : Bool) (a n : ℕ) → cond t a (suc n) ≡ 0 → (t ≡ true) × (a ≡ 0)
@@ -76,6 +78,12 @@ pub record Granting (v : View) (t : Title) : Type 0 where
   pub wells : WellsTake lacking (v .aquifers) (v .aquifer) (postings t (returnOf t))
   pub titled : TitleSound (v .units) (v .aquifers) t
 
+-- What the tests on its fields, on the numbers given and on the entries say of a title that they let through.
+record Passing (v : View) (t : Title) : Type 0 where
+  room : v .given < 256
+  fits : overfull v t ≡ false
+  titled : TitleSound (v .units) (v .aquifers) t
+
 record Room (given x : ℕ) (over : Bool) : Type 0 where
   volume : Volume x
   room : given < 256
@@ -88,64 +96,84 @@ room-of given x over e =
     let s = passed over 0 15 (q .1) in
     record { volume = is-volume x (p .0); room = leb-false 256 given (q .0); fits = s .0 }
 
--- An entry that would not pass the limit takes the amount.
-fits : (n count e a : ℕ) → Exists count n → past (e + a) ≡ false → (0 < n) × (n ≤ count) × (a ≤ lacking e)
-fits n count e a x q = (x .positive, x .within, omega (arith, ltb-false termLimit (e + a) q))
-
-pub granting-of : (v : View) (t : Title) → earlyNumber v t ≡ 0 → Granting v t
-granting-of v (UnitWithdrawal u r x) e =
+passing-of : (v : View) (t : Title) → earlyNumber v t ≡ 0 → Passing v t
+passing-of v (UnitWithdrawal u r x) e =
     let p = held (exists (v .units) u) _ 11 e in
     let q = held (exists 7 r) _ 12 (p .1) in
     let f = room-of (v .given) x (overfull v (UnitWithdrawal u r x)) (q .1) in
-    let there = number-exists (v .units) u (p .0) in
-    let o = neither (past (v .unit (pred u) .extraction + x)) _ (f .fits) in
-    record {
-      room = f .room;
-      units = record { extraction = fits u _ _ x there (o .0); exports = tt; imports = tt; returns = fits u _ _ (returned r x) there (o .1) };
-      wells = tt;
-      titled = (there, number-exists 7 r (q .0), f .volume);
-    }
-granting-of v (AquiferWithdrawal a x) e =
+    record { room = f .room; fits = f .fits; titled = (number-exists (v .units) u (p .0), number-exists 7 r (q .0), f .volume) }
+passing-of v (AquiferWithdrawal a x) e =
     let p = held (exists (v .aquifers) a) _ 11 e in
     let f = room-of (v .given) x (overfull v (AquiferWithdrawal a x)) (p .1) in
-    let there = number-exists (v .aquifers) a (p .0) in
-    record {
-      room = f .room;
-      units = record { extraction = tt; exports = tt; imports = tt; returns = tt };
-      wells = fits a _ _ x there (f .fits);
-      titled = (there, f .volume);
-    }
-granting-of v (UnitTransfer g r x) e =
+    record { room = f .room; fits = f .fits; titled = (number-exists (v .aquifers) a (p .0), f .volume) }
+passing-of v (UnitTransfer g r x) e =
     let p = held (exists (v .units) g && exists (v .units) r) _ 11 e in
     let w = passed (downstreamTransfer v g r) _ 17 (p .1) in
     let f = room-of (v .given) x (overfull v (UnitTransfer g r x)) (w .1) in
     let b = both (exists (v .units) g) _ (p .0) in
-    let giver = number-exists (v .units) g (b .0) in
-    let receiver = number-exists (v .units) r (b .1) in
-    let o = neither (past (v .unit (pred g) .exports + x)) _ (f .fits) in
-    record {
-      room = f .room;
-      units = record { extraction = tt; exports = fits g _ _ x giver (o .0); imports = fits r _ _ x receiver (o .1); returns = tt };
-      wells = tt;
-      titled = (giver, receiver, f .volume);
-    }
-granting-of v (AquiferTransfer a u x) e =
+    record { room = f .room; fits = f .fits; titled = (number-exists (v .units) g (b .0), number-exists (v .units) r (b .1), f .volume) }
+passing-of v (AquiferTransfer a u x) e =
     let p = held (exists (v .aquifers) a && exists (v .units) u) _ 11 e in
     let f = room-of (v .given) x (overfull v (AquiferTransfer a u x)) (p .1) in
     let b = both (exists (v .aquifers) a) _ (p .0) in
-    let source = number-exists (v .aquifers) a (b .0) in
-    let unit = number-exists (v .units) u (b .1) in
-    let o = neither (past (v .aquifer (pred a) .extraction + x)) _ (f .fits) in
+    record { room = f .room; fits = f .fits; titled = (number-exists (v .aquifers) a (b .0), number-exists (v .units) u (b .1), f .volume) }
+passing-of v (ReturningWithdrawal a u r x) e =
+    let p = held (exists (v .aquifers) a && exists (v .units) u) _ 11 e in
+    let q = held (exists 7 r) _ 12 (p .1) in
+    let f = room-of (v .given) x (overfull v (ReturningWithdrawal a u r x)) (q .1) in
+    let b = both (exists (v .aquifers) a) _ (p .0) in
     record {
       room = f .room;
-      units = record { extraction = tt; exports = tt; imports = fits u _ _ x unit (o .1); returns = tt };
-      wells = fits a _ _ x source (o .0);
-      titled = (source, unit, f .volume);
+      fits = f .fits;
+      titled = (number-exists (v .aquifers) a (b .0), number-exists (v .units) u (b .1), number-exists 7 r (q .0), f .volume);
+    }
+
+-- What a sound title names is there.
+there : (count n : ℕ) → Exists count n → (0 < n) × (n ≤ count)
+there count n e = (e .positive, e .within)
+
+pub names-sound : (units aquifers : ℕ) (t : Title) → TitleSound units aquifers t → Names units aquifers (postings t (returnOf t))
+names-sound units aquifers (UnitWithdrawal u r x) s =
+    record { extraction = there units u (s .0); exports = tt; imports = tt; returns = there units u (s .0); wells = tt }
+names-sound units aquifers (AquiferWithdrawal a x) s =
+    record { extraction = tt; exports = tt; imports = tt; returns = tt; wells = there aquifers a (s .0) }
+names-sound units aquifers (UnitTransfer g r x) s =
+    record { extraction = tt; exports = there units g (s .0); imports = there units r (s .1); returns = tt; wells = tt }
+names-sound units aquifers (AquiferTransfer a u x) s =
+    record { extraction = tt; exports = tt; imports = there units u (s .1); returns = tt; wells = there aquifers a (s .0) }
+names-sound units aquifers (ReturningWithdrawal a u r x) s =
+    record { extraction = tt; exports = tt; imports = tt; returns = there units u (s .1); wells = there aquifers a (s .0) }
+
+-- An entry that a posting does not overfill takes it.
+fits : (entry : ℕ → ℕ) (count : ℕ) (p : Posting) → There count p → overfills entry p ≡ false → Takes lacking count entry p
+fits entry count nothing h e = h
+fits entry count (post n a) h e = (h .0, h .1, omega (arith, ltb-false termLimit (entry (pred n) + a) e))
+
+pub granting-of : (v : View) (t : Title) → earlyNumber v t ≡ 0 → Granting v t
+granting-of v t e =
+    let l = passing-of v t e in
+    let p = postings t (returnOf t) in
+    let n = names-sound (v .units) (v .aquifers) t (l .titled) in
+    let a = neither (overfills (λ k. v .aquifer k .extraction) (p .wells)) _ (l .fits) in
+    let b = neither (overfills (λ k. v .unit k .extraction) (p .extraction)) _ (a .1) in
+    let c = neither (overfills (λ k. v .unit k .exports) (p .exports)) _ (b .1) in
+    let d = neither (overfills (λ k. v .unit k .imports) (p .imports)) _ (c .1) in
+    record {
+      room = l .room;
+      units =
+          record {
+            extraction = fits (λ k. v .unit k .extraction) (v .units) (p .extraction) (n .extraction) (b .0);
+            exports = fits (λ k. v .unit k .exports) (v .units) (p .exports) (n .exports) (c .0);
+            imports = fits (λ k. v .unit k .imports) (v .units) (p .imports) (n .imports) (d .0);
+            returns = fits (λ k. v .unit k .returns) (v .units) (p .returns) (n .returns) (d .1);
+          };
+      wells = fits (λ k. v .aquifer k .extraction) (v .aquifers) (p .wells) (n .wells) (a .0);
+      titled = l .titled;
     }
 
 -- What the title names is there.
 pub granting-named : (v : View) (t : Title) → Granting v t → Named v t
-granting-named v t g = names-of lacking (v .unit) (postings t (returnOf t)) (v .aquifer) (v .units) (v .aquifers) (g .units) (g .wells)
+granting-named v t g = names-sound (v .units) (v .aquifers) t (g .titled)
 
 -- An entry that takes what is posted to it stays within the limit.
 stays : (entry : ℕ → ℕ) (count k : ℕ) (p : Posting) → Takes lacking count entry p → entry k ≤ termLimit → entry k + posts p k ≤ termLimit

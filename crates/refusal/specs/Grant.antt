@@ -1,15 +1,16 @@
--- Granting a title, over a view of the entries (document 01, "Titles" and "What each operation refuses"). Assumes nothing.
+-- Granting a title, over a view of the entries (document 01, "Titles" and "What each operation refuses"; document 02 [2]). Assumes nothing.
 use Prim.Native.Nat.{ℕ, pred, _+_}
-use mathlib.Core.Bool.{Bool, not, _&&_, _||_}
+use mathlib.Core.Bool.{Bool, false, not, _&&_, _||_}
 use lib.Dec.{eqb, leb, ltb}
 use lib.Signed.{nonNeg}
 use Rattle.laws.specs.Sum.{every}
 use Rattle.model.specs.declared.Title.{Title}
-use Rattle.model.specs.declared.Title.the-variants.{UnitWithdrawal, AquiferWithdrawal, UnitTransfer, AquiferTransfer}
+use Rattle.model.specs.declared.Title.the-variants.{UnitWithdrawal, AquiferWithdrawal, UnitTransfer, AquiferTransfer, ReturningWithdrawal}
 use Rattle.model.specs.View.{View}
 use Rattle.model.specs.Answers.{Refusal, none, refuse}
 use Rattle.model.specs.Limits.{titleLimit, termLimit}
-use Rattle.titles.specs.Adds.{returned}
+use Rattle.titles.specs.Posting.{Posting, nothing, post, postings}
+use Rattle.titles.specs.Adds.{returnOf}
 use Rattle.river.specs.Wells.{wellAvailability}
 use Rattle.figures.specs.declared.UnitFigures.{UnitFigures}
 use Rattle.figures.specs.Figures.{unitFigures}
@@ -21,11 +22,18 @@ use Rattle.effect.specs.Granted.{granted}
 abbrev pub past : ℕ → Bool
 past x = ltb termLimit x
 
+abbrev pub overfills : (ℕ → ℕ) → Posting → Bool
+overfills entry nothing = false
+overfills entry (post number amount) = past (entry (pred number) + amount)
+
 abbrev pub overfull : View → Title → Bool
-overfull v (UnitWithdrawal u r x) = past (v .unit (pred u) .extraction + x) || past (v .unit (pred u) .returns + returned r x)
-overfull v (AquiferWithdrawal a x) = past (v .aquifer (pred a) .extraction + x)
-overfull v (UnitTransfer g r x) = past (v .unit (pred g) .exports + x) || past (v .unit (pred r) .imports + x)
-overfull v (AquiferTransfer a u x) = past (v .aquifer (pred a) .extraction + x) || past (v .unit (pred u) .imports + x)
+overfull v t =
+    let p = postings t (returnOf t) in
+    overfills (λ k. v .aquifer k .extraction) (p .wells)
+    || (overfills (λ k. v .unit k .extraction) (p .extraction)
+    || (overfills (λ k. v .unit k .exports) (p .exports)
+    || (overfills (λ k. v .unit k .imports) (p .imports)
+    || overfills (λ k. v .unit k .returns) (p .returns))))
 
 -- Figures of a unit with a negative flow or a negative availability, and a unit with such figures.
 abbrev pub inDeficit : UnitFigures → Bool
@@ -48,6 +56,7 @@ noWater v (UnitWithdrawal u r x) = dry v (pred u)
 noWater v (AquiferWithdrawal a x) = drained v (pred a)
 noWater v (UnitTransfer g r x) = dry v (pred g)
 noWater v (AquiferTransfer a u x) = drained v (pred a)
+noWater v (ReturningWithdrawal a u r x) = drained v (pred a)
 
 -- 18 same unit, or the receiver lies below the giver.
 abbrev pub downstreamTransfer : View → ℕ → ℕ → Bool
@@ -62,7 +71,8 @@ volumeRefusal v t x =
     (refuse 17 (noWater (granted v t) t)
     none)))
 
--- What a grant refuses, first match wins: GU 12, 13, 14 to 17; GA 12, 14 to 17; TU 12, 18, 14 to 17; TA 12, 14 to 17.
+-- What a grant refuses, first match wins: GU 12, 13, 14 to 17; GA 12, 14 to 17; TU 12, 18, 14 to 17; TA 12, 14 to 17; GW 12, which
+-- covers a missing aquifer or unit, 13, 14 to 17.
 abbrev pub grantRefusal : View → Title → Refusal
 grantRefusal v (UnitWithdrawal u r x) =
     refuse 12 (not (exists (v .units) u)) (refuse 13 (not (exists 7 r)) (volumeRefusal v (UnitWithdrawal u r x) x))
@@ -73,3 +83,6 @@ grantRefusal v (UnitTransfer g r x) =
     (refuse 18 (downstreamTransfer v g r) (volumeRefusal v (UnitTransfer g r x) x))
 grantRefusal v (AquiferTransfer a u x) =
     refuse 12 (not (exists (v .aquifers) a && exists (v .units) u)) (volumeRefusal v (AquiferTransfer a u x) x)
+grantRefusal v (ReturningWithdrawal a u r x) =
+    refuse 12 (not (exists (v .aquifers) a && exists (v .units) u))
+    (refuse 13 (not (exists 7 r)) (volumeRefusal v (ReturningWithdrawal a u r x) x))

@@ -8,7 +8,7 @@ use Rattle.laws.specs.Sum.{every}
 use Rattle.model.specs.declared.Unit.{Unit}
 use Rattle.model.specs.declared.Aquifer.{Aquifer}
 use Rattle.model.specs.declared.Title.{Title}
-use Rattle.model.specs.declared.Title.the-variants.{UnitWithdrawal, AquiferWithdrawal, UnitTransfer, AquiferTransfer}
+use Rattle.model.specs.declared.Title.the-variants.{UnitWithdrawal, AquiferWithdrawal, UnitTransfer, AquiferTransfer, ReturningWithdrawal}
 use Rattle.model.specs.View.{View}
 use Rattle.model.specs.Limits.{titleLimit}
 use Rattle.figures.specs.declared.UnitFigures.{UnitFigures}
@@ -31,6 +31,9 @@ earlyNumber v (UnitTransfer g r x) =
     (cond (downstreamTransfer v g r) 18 (volumeNumber (v .given) x (overfull v (UnitTransfer g r x)))) 12
 earlyNumber v (AquiferTransfer a u x) =
     cond (exists (v .aquifers) a && exists (v .units) u) (volumeNumber (v .given) x (overfull v (AquiferTransfer a u x))) 12
+earlyNumber v (ReturningWithdrawal a u r x) =
+    cond (exists (v .aquifers) a && exists (v .units) u)
+    (cond (exists 7 r) (volumeNumber (v .given) x (overfull v (ReturningWithdrawal a u r x))) 13) 12
 
 -- The number of the unit that gives, 0 where an aquifer gives.
 abbrev pub givingUnit : Title → ℕ
@@ -38,6 +41,7 @@ givingUnit (UnitWithdrawal u r x) = u
 givingUnit (AquiferWithdrawal a x) = 0
 givingUnit (UnitTransfer g r x) = g
 givingUnit (AquiferTransfer a u x) = 0
+givingUnit (ReturningWithdrawal a u r x) = 0
 
 -- The number of the aquifer that gives, 0 where a unit gives.
 abbrev pub givingAquifer : Title → ℕ
@@ -45,6 +49,7 @@ givingAquifer (UnitWithdrawal u r x) = 0
 givingAquifer (AquiferWithdrawal a x) = a
 givingAquifer (UnitTransfer g r x) = 0
 givingAquifer (AquiferTransfer a u x) = a
+givingAquifer (ReturningWithdrawal a u r x) = a
 
 -- The view of units and aquifers without titles, with so many title numbers given.
 abbrev pub entriesView : List Unit → ℕ → List Aquifer → ℕ → ℕ → View

@@ -3,7 +3,7 @@ ghost use mathlib.Core.Path.{_≡_};
 ghost use mathlib.Core.Bool.{_||_};
 ghost use Prim.Native.Nat.{_≤_, _<_, _+_};
 ghost use mathlib.Core.List.{[]};
-ghost use Rattle.model.specs.declared.Title.the-variants.{UnitWithdrawal, AquiferWithdrawal, UnitTransfer, AquiferTransfer};
+ghost use Rattle.model.specs.declared.Title.the-variants.{UnitWithdrawal, AquiferWithdrawal, UnitTransfer, AquiferTransfer, ReturningWithdrawal};
 ghost use Rattle.model.specs.Limits.{unitLimit, aquiferLimit};
 ghost use Rattle.river.specs.Flow.{Ready};
 ghost use Rattle.river.specs.Units.{unitsView};
@@ -126,6 +126,42 @@ fn bringing_number(
     12
 }
 
+// GW: 12 to 16.
+fn returning_number(
+    units: [Unit; Balance::UNITS],
+    n: usize,
+    aquifers: [Aquifer; Balance::AQUIFERS],
+    m: usize,
+    given: usize,
+    aquifer: u8,
+    unit: u8,
+    usage: u8,
+    volume: u32,
+) -> u8
+    requires { ⌜ (n ≤ unitLimit) × (m ≤ aquiferLimit) ⌝ }
+    ensures { λ r. ⌜ r ≡ steps.earlyNumber (entriesView units n aquifers m given) (ReturningWithdrawal aquifer unit usage volume) ⌝ }
+{
+    if exists(m, aquifer) {
+        if exists(n, unit) {
+            if exists(7, usage) {
+                let w = (aquifer as usize) - 1;
+                let a = aquifers[w];
+                let k = (unit as usize) - 1;
+                let u = units[k];
+                let over = either_past(
+                    a.extraction,
+                    volume,
+                    u.returns,
+                    titles::returned(usage, volume),
+                );
+                return volume_number(given, volume, over);
+            }
+            return 13;
+        }
+    }
+    12
+}
+
 // 18 same unit, or the receiver lies below the giver.
 fn is_downstream(units: [Unit; Balance::UNITS], n: usize, from: u8, to: u8) -> bool
     requires { ⌜ Ready (unitsView units n) × (0 < from) × (from ≤ n) × (0 < to) ⌝ }
@@ -205,5 +241,11 @@ pub fn early(
             unit,
             volume,
         } => bringing_number(units, n, aquifers, m, given, aquifer, unit, volume),
+        Title::ReturningWithdrawal {
+            aquifer,
+            unit,
+            usage,
+            volume,
+        } => returning_number(units, n, aquifers, m, given, aquifer, unit, usage, volume),
     }
 }

@@ -97,6 +97,12 @@ fn giving_unit(t: Title) -> u8
             unit: _,
             volume: _,
         } => 0,
+        Title::ReturningWithdrawal {
+            aquifer: _,
+            unit: _,
+            usage: _,
+            volume: _,
+        } => 0,
     }
 }
 
@@ -119,6 +125,12 @@ fn giving_aquifer(t: Title) -> u8
         Title::AquiferTransfer {
             aquifer,
             unit: _,
+            volume: _,
+        } => aquifer,
+        Title::ReturningWithdrawal {
+            aquifer,
+            unit: _,
+            usage: _,
             volume: _,
         } => aquifer,
     }

@@ -1,12 +1,10 @@
 -- The view of a balance with a title out of force, and that a sound balance holds what its titles added. Assumes nothing.
-use Prim.Native.Nat.{ℕ, pred, _+_, _≤_, _<_}
+use Prim.Native.Nat.{ℕ, pred, _+_, _≤_}
 use mathlib.Core.Path.{_≡_}
 use mathlib.Core.Bool.{true, false}
 use native.Mathlib.Omega.{arith}
 use Rattle.laws.proofs.Every.{both}
 use Rattle.laws.proofs.Putting.{sum-put}
-use Rattle.model.specs.declared.Title.{Title}
-use Rattle.model.specs.declared.Title.the-variants.{UnitWithdrawal, AquiferWithdrawal, UnitTransfer, AquiferTransfer}
 use Rattle.model.specs.declared.Balance.{Balance}
 use Rattle.model.specs.Entries.{placeOf}
 use Rattle.model.specs.View.{View, viewOf}
@@ -16,12 +14,13 @@ use Rattle.titles.specs.declared.Slot.{Slot}
 use Rattle.titles.specs.declared.Slot.the-variants.{Extraction, Exports, Imports, Returns, WellExtraction}
 use Rattle.titles.proofs.Adding.{in-force}
 use Rattle.basin.specs.Sound.{exists}
-use Rattle.basin.proofs.Soundness.{TitleSound, Exists, Soundness, number-exists}
+use Rattle.basin.proofs.Soundness.{Exists, Soundness, number-exists}
 use Rattle.effect.specs.Room.{Names, UnitsTake, WellsTake}
 use Rattle.effect.specs.Granted.{Sized}
 use Rattle.effect.specs.Cancelled.{titleOf, cancelled, withoutTitle, held, Takable}
 use Rattle.effect.proofs.Taking.{takes-of, units-more, wells-more}
 use Rattle.effect.proofs.Changing.{without-view}
+use Rattle.refusal.proofs.Granting.{names-sound}
 use Rattle.register.specs.Cancel.{numberInForce}
 
 -- A number in force was given, and its place is in force.
@@ -31,20 +30,6 @@ pub record InForce (v : View) (n : ℕ) : Type 0 where
 
 pub in-force-of : (v : View) (n : ℕ) → numberInForce v n ≡ true → InForce v n
 in-force-of v n e = let p = both (exists (v .given) n) _ e in record { given = number-exists (v .given) n (p .0); stands = p .1 }
-
--- What a sound title names is there.
-there : (count n : ℕ) → Exists count n → (0 < n) × (n ≤ count)
-there count n e = (e .positive, e .within)
-
-names-sound : (units aquifers : ℕ) (t : Title) → TitleSound units aquifers t → Names units aquifers (postings t (returnOf t))
-names-sound units aquifers (UnitWithdrawal u r x) s =
-    record { extraction = there units u (s .0); exports = tt; imports = tt; returns = there units u (s .0); wells = tt }
-names-sound units aquifers (AquiferWithdrawal a x) s =
-    record { extraction = tt; exports = tt; imports = tt; returns = tt; wells = there aquifers a (s .0) }
-names-sound units aquifers (UnitTransfer g r x) s =
-    record { extraction = tt; exports = there units g (s .0); imports = there units r (s .1); returns = tt; wells = tt }
-names-sound units aquifers (AquiferTransfer a u x) s =
-    record { extraction = tt; exports = tt; imports = there units u (s .1); returns = tt; wells = there aquifers a (s .0) }
 
 -- The titles in force without the one under a number, and what it added.
 pub one-less : (v : View) (n : ℕ) → InForce v n → (s : Slot) (j : ℕ)

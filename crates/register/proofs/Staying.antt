@@ -9,7 +9,7 @@ use Rattle.laws.proofs.Cases.{by-bool, by-eq}
 use Rattle.laws.proofs.Putting.{sum-put-next}
 use Rattle.model.specs.declared.Unit.{Unit}
 use Rattle.model.specs.declared.Title.{Title}
-use Rattle.model.specs.declared.Title.the-variants.{UnitWithdrawal, AquiferWithdrawal, UnitTransfer, AquiferTransfer}
+use Rattle.model.specs.declared.Title.the-variants.{UnitWithdrawal, AquiferWithdrawal, UnitTransfer, AquiferTransfer, ReturningWithdrawal}
 use Rattle.model.specs.declared.Answer.{Answer}
 use Rattle.model.specs.declared.Answer.the-variants.{Accepted, Refused}
 use Rattle.model.specs.declared.Balance.{Balance}
@@ -132,6 +132,7 @@ granted-flows v (AquiferWithdrawal a x) s g d = well-flows v (AquiferWithdrawal 
 granted-flows v (UnitTransfer n r x) s g d =
     basin-flows v (UnitTransfer n r x) s g n (g .units .exports .0) (g .units .exports .1) d (λ k e. (refl, elsewhere n x k e))
 granted-flows v (AquiferTransfer a u x) s g d = well-flows v (AquiferTransfer a u x) s g (λ k. (refl, refl))
+granted-flows v (ReturningWithdrawal a u r x) s g d = well-flows v (ReturningWithdrawal a u r x) s g (λ k. (refl, refl))
 
 -- A sound view stays sound with a title in that no refusal meets.
 pub granted-sound : (v : View) (t : Title) → sound v ≡ true → earlyNumber v t ≡ 0 → noWater (granted v t) t ≡ false
@@ -169,7 +170,7 @@ grant-given b t a =
 pub given-reply : (b : Balance) (t : Title) → Given b t → replied none b (posted b t) (b .given + 1) ≡ grantReply b t
 given-reply b t g = reply-given b t (g .sound-before) (g .none-early) (g .water)
 
--- GU, GA, TU and TA: an accepted call never hands out a balance that falls under 0.
+-- GU, GA, TU, TA and GW: an accepted call never hands out a balance that falls under 0.
 pub accepted-sound : (b : Balance) (t : Title) → Sized b → grantReply b t .answer ≡ Accepted → sound (viewOf (grantReply b t .balance)) ≡ true
 accepted-sound b t z a =
     let g = grant-given b t a in

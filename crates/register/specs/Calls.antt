@@ -1,4 +1,4 @@
--- The five calls as one, and lists of calls (document 01, "What each operation refuses"; demand 3). Assumes nothing.
+-- The six calls as one, and lists of calls (document 01, "What each operation refuses"; document 02 [2]; demand 3). Assumes nothing.
 use Prim.Native.Nat.{ℕ, _+_}
 use mathlib.Core.List.{List, [], _∷_}
 use Rattle.model.specs.declared.Call.{Call}

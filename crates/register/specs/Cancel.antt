@@ -1,4 +1,4 @@
--- Cancelling a title, over a view of the entries (document 01, "Titles" and the refusals of CA). Assumes nothing.
+-- Cancelling a title, over a view of the entries (document 01, "Titles" and the refusals of CA; document 02 [2]). Assumes nothing.
 use Prim.Native.Nat.{ℕ, pred}
 use mathlib.Core.Bool.{Bool, not, _&&_}
 use Rattle.model.specs.declared.Balance.{Balance}

@@ -19,6 +19,6 @@ abbrev pub replied : Refusal → Balance → Balance → ℕ → Reply
 replied none old new n = record { answer = answered none; number = n; balance = new }
 replied (number k) old new n = record { answer = answered (number k); number = 0; balance = old }
 
--- GU, GA, TU and TA: the reply to a grant.
+-- GU, GA, TU, TA and GW: the reply to a grant.
 abbrev pub grantReply : Balance → Title → Reply
 grantReply b t = replied (afterTest b (grantRefusal (viewOf b) t)) b (posted b t) (b .given + 1)

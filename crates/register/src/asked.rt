@@ -1,6 +1,6 @@
 // The calls of the register, on every balance.
 ghost use mathlib.Core.Path.{_≡_};
-ghost use Rattle.model.specs.declared.Title.the-variants.{UnitWithdrawal, AquiferWithdrawal, UnitTransfer, AquiferTransfer};
+ghost use Rattle.model.specs.declared.Title.the-variants.{UnitWithdrawal, AquiferWithdrawal, UnitTransfer, AquiferTransfer, ReturningWithdrawal};
 ghost use Rattle.register.specs.Reply as replies;
 ghost use Rattle.register.specs.Cancel as cancels;
 ghost use Rattle.register.specs.Calls as calls;
@@ -64,6 +64,19 @@ pub fn bring(b: Balance, aquifer: u8, unit: u8, volume: u32) -> Reply
     let title = Title::AquiferTransfer {
         aquifer,
         unit,
+        volume,
+    };
+    ask(b, Call::Grant { title })
+}
+
+// GW: a withdrawal from an aquifer whose return goes to a unit.
+pub fn pump_returning(b: Balance, aquifer: u8, unit: u8, usage: u8, volume: u32) -> Reply
+    ensures { λ r. ⌜ r ≡ replies.grantReply b (ReturningWithdrawal aquifer unit usage volume) ⌝ }
+{
+    let title = Title::ReturningWithdrawal {
+        aquifer,
+        unit,
+        usage,
         volume,
     };
     ask(b, Call::Grant { title })

@@ -8,6 +8,7 @@ pub use asked::ask;
 pub use asked::bring;
 pub use asked::cancel;
 pub use asked::pump;
+pub use asked::pump_returning;
 pub use asked::transfer;
 pub use asked::withdraw;
 

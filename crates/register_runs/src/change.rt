@@ -1,11 +1,12 @@
 // A change of a balance, as the file has it: two letters that say what is changed, and numbers.
 
-// The letters, and the numbers so far: the last is `value`, the one before it `second`, and the one before that `first`.
+// The letters, and the numbers so far: the last is `value`, those before it are, backwards, `third`, `second` and `first`.
 pub struct Change {
     pub kind: u8,
     pub field: u8,
     pub first: u64,
     pub second: u64,
+    pub third: u64,
     pub value: u64,
     pub negative: bool,
 }
@@ -17,6 +18,7 @@ pub(crate) fn none() -> Change {
         field: 0,
         first: 0,
         second: 0,
+        third: 0,
         value: 0,
         negative: false,
     }
@@ -43,7 +45,8 @@ fn appended(n: u64, digit: u64) -> u64 {
 pub(crate) fn read(mut c: Change, byte: u8) -> Change {
     if byte == b' ' {
         c.first = c.second;
-        c.second = c.value;
+        c.second = c.third;
+        c.third = c.value;
         c.value = 0;
         return c;
     }

@@ -35,16 +35,24 @@ fn aquifer_with(mut a: Aquifer, field: u8, z: i64, v: u32) -> Aquifer {
     a
 }
 
-// The title of a change: gu, ga, tu or ta, with its volume last and what it is from and to before that.
+// The title of a change: gu, ga, tu, ta or gw, with its volume last and what it is from, to and for before that.
 fn title(c: Change) -> Title {
     let kind = c.kind;
     let field = c.field;
-    let a = change::small(c.first);
-    let b = change::small(c.second);
+    let a = change::small(c.second);
+    let b = change::small(c.third);
     let volume = change::word(c.value);
     if kind == b'g' {
         if field == b'u' {
             return Title::UnitWithdrawal {
+                unit: a,
+                usage: b,
+                volume,
+            };
+        }
+        if field == b'w' {
+            return Title::ReturningWithdrawal {
+                aquifer: change::small(c.first),
                 unit: a,
                 usage: b,
                 volume,
@@ -68,7 +76,7 @@ fn title(c: Change) -> Title {
 
 // With another entry in the unit of a number.
 fn with_unit(mut b: Balance, c: Change) -> Balance {
-    let i = change::index(c.second);
+    let i = change::index(c.third);
     let to = change::small(c.value);
     let z = change::signed(c.value, c.negative);
     let v = change::word(c.value);
@@ -83,7 +91,7 @@ fn with_unit(mut b: Balance, c: Change) -> Balance {
 
 // With another figure in the aquifer of a number.
 fn with_aquifer(mut b: Balance, c: Change) -> Balance {
-    let i = change::index(c.second);
+    let i = change::index(c.third);
     let z = change::signed(c.value, c.negative);
     let v = change::word(c.value);
     if Balance::AQUIFERS <= i {

@@ -1,4 +1,4 @@
-// Makes the five calls on balances that are broken in each way that gives 0, and on sound ones at the limits. The base of them all is
+// Makes the six calls on balances that are broken in each way that gives 0, and on sound ones at the limits. The base of them all is
 // the balance of the book `broken-base` after its calls; each line of the file `balances` says what is printed and what is changed in it.
 ghost use Rattle.io.specs.Counts.{Counts};
 

@@ -1,10 +1,10 @@
--- What titles add to the entries (document 01, "Titles"). Assumes nothing.
+-- What titles add to the entries (document 01, "Titles"; document 02 [2]). Assumes nothing.
 use Prim.Native.Nat.{ℕ, _*_, _/_}
 use mathlib.Core.Bool.{cond}
 use lib.Dec.{eqb}
 use Rattle.laws.specs.Sum.{naturals, sumOf, only}
 use Rattle.model.specs.declared.Title.{Title}
-use Rattle.model.specs.declared.Title.the-variants.{UnitWithdrawal, AquiferWithdrawal, UnitTransfer, AquiferTransfer}
+use Rattle.model.specs.declared.Title.the-variants.{UnitWithdrawal, AquiferWithdrawal, UnitTransfer, AquiferTransfer, ReturningWithdrawal}
 use Rattle.model.specs.declared.Place.{Place}
 use Rattle.titles.specs.declared.Slot.{Slot}
 use Rattle.model.specs.View.{View}
@@ -21,12 +21,14 @@ returnPercent r =
 abbrev pub returned : ℕ → ℕ → ℕ
 returned usage volume = volume * returnPercent usage / 100
 
--- The return of a title: that of its use and volume for a withdrawal from a unit, 0 for the other kinds.
+-- The return of a title: that of its use and volume for a withdrawal from a unit and for one from an aquifer that returns to a unit, by the
+-- same table; 0 for the other kinds.
 abbrev pub returnOf : Title → ℕ
 returnOf (UnitWithdrawal u r v) = returned r v
 returnOf (AquiferWithdrawal a v) = 0
 returnOf (UnitTransfer g r v) = 0
 returnOf (AquiferTransfer a u v) = 0
+returnOf (ReturningWithdrawal a u r v) = returned r v
 
 -- What a title with its return adds to an entry of the unit or aquifer at index j.
 abbrev pub adds : Title → ℕ → Slot → ℕ → ℕ

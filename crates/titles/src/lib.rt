@@ -66,7 +66,8 @@ fn raise(sums: &mut [u64; Balance::UNITS], number: u8, amount: u32)
 
 // What a title adds. A withdrawal from a unit adds its volume to the extraction and its return to the returns; a withdrawal from an
 // aquifer to the aquifer's extraction; a transfer from a unit to the giver's exports and the receiver's imports; a transfer from an
-// aquifer to the aquifer's extraction and the unit's imports.
+// aquifer to the aquifer's extraction and the unit's imports; a withdrawal from an aquifer that returns to a unit adds its volume to the
+// aquifer's extraction and its return to the unit's returns.
 pub fn add(
     title: Title,
     extraction: &mut [u64; Balance::UNITS],
@@ -103,6 +104,16 @@ pub fn add(
         } => {
             raise(wells, aquifer, volume);
             raise(imports, unit, volume);
+        }
+        Title::ReturningWithdrawal {
+            aquifer,
+            unit,
+            usage,
+            volume,
+        } => {
+            let back = returned(usage, volume);
+            raise(wells, aquifer, volume);
+            raise(returns, unit, back);
         }
     }
 }

@@ -1,7 +1,8 @@
 //! Writes random books as files, or counts what the model makes of them.
 
-use reference::record::{mark_at, records_of, Mark, Record};
-use std::collections::BTreeMap;
+use reference::book::{next_call, open};
+use reference::record::{mark_at, records_of, Call, Mark, Record};
+use std::collections::{BTreeMap, BTreeSet};
 use std::path::Path;
 use std::process::ExitCode;
 
@@ -56,6 +57,7 @@ fn tally(seeds: std::ops::Range<u64>) {
     let mut records: BTreeMap<String, usize> = BTreeMap::new();
     let mut rain: BTreeMap<String, usize> = BTreeMap::new();
     let mut at_tenths: BTreeMap<String, usize> = BTreeMap::new();
+    let mut marks = Marks::default();
     let mut bytes = 0;
     for seed in seeds {
         let book = reference::random::book(seed);
@@ -68,6 +70,7 @@ fn tally(seeds: std::ops::Range<u64>) {
         if let Some(number) = refused_at_tenths(&book) {
             *at_tenths.entry(format!("refused {number:>2}")).or_insert(0) += 1;
         }
+        marks.count(&answered_calls(&book, &printed));
         for line in printed.lines() {
             let words: Vec<&str> = line.split(' ').collect();
             match words.as_slice() {
@@ -92,10 +95,13 @@ fn tally(seeds: std::ops::Range<u64>) {
         ),
         ("units with rain in accepted descriptions", rain),
         ("descriptions refused at a PD", at_tenths),
+        ("calls by mark", marks.calls),
+        ("replies to GW, and to CA of such a title", marks.replies),
+        ("books with such a reply, once for each reply", marks.books),
     ] {
         println!("{title}: {}", counts.values().sum::<usize>());
         for (reply, count) in counts {
-            println!("  {reply:<12} {count}");
+            println!("  {reply:<15} {count}");
         }
     }
 }
@@ -118,6 +124,81 @@ fn rain_of_units(book: &[u8]) -> Vec<&'static str> {
             }
         })
         .collect()
+}
+
+/// Calls by their marks, and what becomes of withdrawals with a return to a unit (GW).
+#[derive(Default)]
+struct Marks {
+    calls: BTreeMap<String, usize>,
+    /// The replies to GW and to cancellations of such titles.
+    replies: BTreeMap<String, usize>,
+    /// The books with such a reply.
+    books: BTreeMap<String, usize>,
+}
+
+impl Marks {
+    /// Counts the calls of one book.
+    fn count(&mut self, answered: &[(Call, String)]) {
+        for (call, _) in answered {
+            let mark = Record::Call(*call).mark();
+            let letters = String::from_utf8_lossy(mark.letters()).into_owned();
+            *self.calls.entry(letters).or_insert(0) += 1;
+        }
+        let replies = replies_to_returning(answered);
+        for reply in replies.iter().cloned().collect::<BTreeSet<String>>() {
+            *self.books.entry(reply).or_insert(0) += 1;
+        }
+        for reply in replies {
+            *self.replies.entry(reply).or_insert(0) += 1;
+        }
+    }
+}
+
+/// The calls of a book, each with the words of its reply as printed.
+fn answered_calls(book: &[u8], printed: &str) -> Vec<(Call, String)> {
+    let Ok(opened) = open(book) else {
+        return Vec::new();
+    };
+    let mut at = opened.end;
+    let replies = printed.lines().filter_map(|line| {
+        let (_, reply) = line.strip_prefix("call ")?.split_once(' ')?;
+        Some(reply.to_string())
+    });
+    replies
+        .map(|reply| {
+            let (call, next) = next_call(book, at).expect("the call has been read before");
+            at = next;
+            (call, reply)
+        })
+        .collect()
+}
+
+/// The replies to the calls that ask for a withdrawal with a return to a unit, and to the
+/// cancellations of such titles.
+fn replies_to_returning(answered: &[(Call, String)]) -> Vec<String> {
+    let mut titles: Vec<Call> = Vec::new();
+    let mut replies = Vec::new();
+    for (call, reply) in answered {
+        let shown = match reply.split_once(' ') {
+            Some(("refused", number)) => format!("refused {number:>2}"),
+            Some((word, _)) => word.to_string(),
+            None => reply.clone(),
+        };
+        match *call {
+            Call::PumpReturning { .. } => replies.push(format!("GW {shown}")),
+            Call::Cancel { title } => {
+                let cancelled = titles.get(usize::from(title).wrapping_sub(1));
+                if let Some(Call::PumpReturning { .. }) = cancelled {
+                    replies.push(format!("CA {shown}"));
+                }
+            }
+            _ => {}
+        }
+        if reply.starts_with("given") {
+            titles.push(*call);
+        }
+    }
+    replies
 }
 
 /// The number by which a description is refused, if its place is the offset of a PD.

@@ -2,6 +2,16 @@
 
 #![allow(dead_code)]
 
+use std::path::Path;
+
+/// A file of a program crate that runs many books or calls through the proved functions.
+pub fn of_crate(program: &str, name: &str) -> Vec<u8> {
+    let folder = Path::new(env!("CARGO_MANIFEST_DIR"))
+        .join("../crates")
+        .join(program);
+    std::fs::read(folder.join(name)).expect(name)
+}
+
 /// The book of a text whose lines are separated by semicolons or line ends.
 pub fn book(text: &str) -> Vec<u8> {
     reference::text::make(&text.replace(';', "\n")).expect("the text is well formed")

@@ -41,6 +41,18 @@ raise-requires-6 c κs = c .before .before .before .before .pre WellExtraction
 raise-requires-7 : tie.Need-raise-requires-7
 raise-requires-7 c κs = c .before .before .before .before .before .before .pre Imports
 
+enum-known-title-5 : tie.Need-enum-known-title-5
+enum-known-title-5 c = search needs
+
+returned-requires-2 : tie.Need-returned-requires-2
+returned-requires-2 c κs = search needs
+
+raise-requires-8 : tie.Need-raise-requires-8
+raise-requires-8 c κs = c .before .before .before .before .before .pre WellExtraction
+
+raise-requires-9 : tie.Need-raise-requires-9
+raise-requires-9 c κs = c .before .before .before .before .before .before .before .pre Returns
+
 returns : tie.Need-returns
 returns c =
     let room = c .before .before .before .before .before .before .before .before .pre in
@@ -69,6 +81,13 @@ returns-4 c =
     (raised-none _ (room Extraction)) (raised-none _ (room Exports)) (c .raise7 .ensures) (raised-none _ (room Returns))
     (c .before .before .raise6 .ensures)
 
+returns-5 : tie.Need-returns-5
+returns-5 c =
+    let room = c .before .before .before .before .before .before .before .before .pre in
+    raised-title _ _ _ (c .before .before .before .before .before .before .title5 .given .1)
+    (raised-none _ (room Extraction)) (raised-none _ (room Exports)) (raised-none _ (room Imports))
+    (raised-amount (c .before .before .before .before .returned2 .ensures) (c .raise9 .ensures)) (c .before .before .raise8 .ensures)
+
 pub add-spec : {M : Type 1} → statement M
 add-spec =
     tie.close
@@ -85,7 +104,12 @@ add-spec =
     enum-known-title-4
     raise-requires-6
     raise-requires-7
+    enum-known-title-5
+    returned-requires-2
+    raise-requires-8
+    raise-requires-9
     returns
     returns-2
     returns-3
-    returns-4)
+    returns-4
+    returns-5)

@@ -32,6 +32,12 @@ enum-known-t-4 c = search needs
 both-exist-requires-3 : tie.Need-both-exist-requires-3
 both-exist-requires-3 c κs = search needs
 
+enum-known-t-5 : tie.Need-enum-known-t-5
+enum-known-t-5 c = search needs
+
+all-exist-requires : tie.Need-all-exist-requires
+all-exist-requires c κs = search needs
+
 -- The test of the title that a match found.
 by-title : (units aquifers : ℕ) (r : Bool) {t u : Title} → t ≡ u → r ≡ soundTitle units aquifers u → r ≡ soundTitle units aquifers t
 by-title units aquifers r e p = p ∙ ap (soundTitle units aquifers) (sym e)
@@ -48,6 +54,9 @@ returns-3 c = by-title _ _ _ (c .before .before .t3 .given .1) (c .both-exist2 .
 returns-4 : tie.Need-returns-4
 returns-4 c = by-title _ _ _ (c .before .before .t4 .given .1) (c .both-exist3 .ensures)
 
+returns-5 : tie.Need-returns-5
+returns-5 c = by-title _ _ _ (c .before .before .t5 .given .1) (c .all-exist .ensures)
+
 pub title-sound-spec : {M : Type 1} → statement M
 title-sound-spec =
     tie.close
@@ -60,7 +69,10 @@ title-sound-spec =
     both-exist-requires-2
     enum-known-t-4
     both-exist-requires-3
+    enum-known-t-5
+    all-exist-requires
     returns
     returns-2
     returns-3
-    returns-4)
+    returns-4
+    returns-5)

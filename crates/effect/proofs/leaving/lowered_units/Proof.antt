@@ -7,12 +7,12 @@ use borrow.Author.Needs.{needs}
 use Rattle.model.specs.Fresh.{emptyUnit}
 use Rattle.model.specs.declared.Unit.{Unit}
 use Rattle.model.specs.declared.Title.{Title}
-use Rattle.model.specs.declared.Title.the-variants.{UnitWithdrawal, UnitTransfer, AquiferTransfer}
+use Rattle.model.specs.declared.Title.the-variants.{UnitWithdrawal, UnitTransfer, AquiferTransfer, ReturningWithdrawal}
 use Rattle.effect.specs.Effect.{changedBy}
 use Rattle.effect.specs.Room.{Leaves}
 use Rattle.effect.specs.Cancelled.{held, UnitsHeld, loweredUnits}
-use Rattle.effect.proofs.Taking.{withdrawal-leaves, giver-leaves, receiver-leaves, bringing-leaves}
-use Rattle.effect.proofs.Changing.{less-none, withdrawal-changed, transfer-changed, bringing-changed, units-unchanged}
+use Rattle.effect.proofs.Taking.{withdrawal-leaves, giver-leaves, receiver-leaves, bringing-leaves, returning-leaves}
+use Rattle.effect.proofs.Changing.{less-none, withdrawal-changed, transfer-changed, bringing-changed, returning-changed, units-unchanged}
 use Rattle.effect.proofs.leaving.lowered_units.Statement.{statement}
 use Rattle.effect.proofs.leaving.lowered_units.Tie as tie
 
@@ -34,6 +34,12 @@ bringing : (c : tie.After-known-told3) → let t = c .before .t3 .given .0 in
 bringing c =
     let start = c .before .before .before in
     subst (λ (t : Title). UnitsHeld t (start .args .units)) (c .before .t3 .given .1) (start .pre)
+
+returning : (c : tie.After-known-told4) → let t = c .before .t4 .given .0 in
+    UnitsHeld (ReturningWithdrawal (t .0) (t .1 .0) (t .1 .1 .0) (t .1 .1 .1 .0)) (c .before .before .before .args .units)
+returning c =
+    let start = c .before .before .before in
+    subst (λ (t : Title). UnitsHeld t (start .args .units)) (c .before .t4 .given .1) (start .pre)
 
 enum-known-t : tie.Need-enum-known-t
 enum-known-t c = search needs
@@ -95,6 +101,23 @@ lowered-at-requires-4 c κs =
     let t = c .before .t3 .given .0 in
     bringing-leaves held (c .before .before .before .args .units) (t .0) (t .1 .0) _ (bringing c)
 
+enum-known-t-4 : tie.Need-enum-known-t-4
+enum-known-t-4 c = search needs
+
+returned-requires-2 : tie.Need-returned-requires-2
+returned-requires-2 c κs = search needs
+
+cast-lowered-at-5 : tie.Need-cast-lowered-at-5
+cast-lowered-at-5 c = search needs
+
+sub-lowered-at-5 : tie.Need-sub-lowered-at-5
+sub-lowered-at-5 c = returning (c .before) .returns .0
+
+lowered-at-requires-5 : tie.Need-lowered-at-requires-5
+lowered-at-requires-5 c κs =
+    let t = c .before .before .t4 .given .0 in
+    rw (c .returned2 .ensures) (returning-leaves held (c .before .before .before .before .args .units) (t .0) (t .1 .0) (t .1 .1 .0) _ (returning (c .before)))
+
 returns : tie.Need-returns
 returns c =
     let us = c .before .before .before .before .before .args .units in
@@ -127,6 +150,15 @@ returns-4 c =
     ∙ bringing-changed _-_ less-none us (t .0 .0) (t .0 .1 .0) (t .0 .1 .1 .0) 0 (bringing (c .before) .imports .0)
     ∙ ap (λ (t : Title). loweredUnits t us) (sym (t .1))
 
+returns-5 : tie.Need-returns-5
+returns-5 c =
+    let us = c .before .before .before .before .before .args .units in
+    let t = c .before .before .before .t4 .given in
+    c .lowered-at5 .ensures
+    ∙ ap (λ (back : ℕ). set us (t .0 .1 .0 - 1) (changedBy _-_ (getD us (t .0 .1 .0 - 1) emptyUnit) 0 0 0 back)) (c .before .returned2 .ensures)
+    ∙ returning-changed _-_ less-none us (t .0 .0) (t .0 .1 .0) (t .0 .1 .1 .0) (t .0 .1 .1 .1 .0) _ (returning (c .before .before) .returns .0)
+    ∙ ap (λ (t : Title). loweredUnits t us) (sym (t .1))
+
 pub lowered-units-spec : {M : Type 1} → statement M
 lowered-units-spec =
     tie.close
@@ -148,7 +180,13 @@ lowered-units-spec =
     cast-lowered-at-4
     sub-lowered-at-4
     lowered-at-requires-4
+    enum-known-t-4
+    returned-requires-2
+    cast-lowered-at-5
+    sub-lowered-at-5
+    lowered-at-requires-5
     returns
     returns-2
     returns-3
-    returns-4)
+    returns-4
+    returns-5)

@@ -3,7 +3,7 @@ use Prim.Native.Nat.{_-_}
 use mathlib.Core.Path.{sym, ap, subst, _∙_}
 use borrow.Author.Needs.{needs}
 use Rattle.model.specs.declared.Title.{Title}
-use Rattle.model.specs.declared.Title.the-variants.{AquiferWithdrawal, AquiferTransfer}
+use Rattle.model.specs.declared.Title.the-variants.{AquiferWithdrawal, AquiferTransfer, ReturningWithdrawal}
 use Rattle.effect.specs.Cancelled.{held, WellsHeld, loweredWells}
 use Rattle.effect.proofs.Taking.{well-leaves}
 use Rattle.effect.proofs.Changing.{less-none, well-changed, wells-unchanged}
@@ -22,6 +22,12 @@ bringing : (c : tie.After-known-told2) → let t = c .before .t2 .given .0 in
 bringing c =
     let start = c .before .before .before in
     subst (λ (t : Title). WellsHeld t (start .args .aquifers)) (c .before .t2 .given .1) (start .pre)
+
+returning : (c : tie.After-known-told3) → let t = c .before .t3 .given .0 in
+    WellsHeld (ReturningWithdrawal (t .0) (t .1 .0) (t .1 .1 .0) (t .1 .1 .1 .0)) (c .before .before .before .args .aquifers)
+returning c =
+    let start = c .before .before .before in
+    subst (λ (t : Title). WellsHeld t (start .args .aquifers)) (c .before .t3 .given .1) (start .pre)
 
 enum-told : tie.Need-enum-told
 enum-told c = search needs
@@ -53,6 +59,18 @@ sub-lowered-well-2 c = bringing c .0
 lowered-well-requires-2 : tie.Need-lowered-well-requires-2
 lowered-well-requires-2 c κs = well-leaves held (c .before .before .before .args .aquifers) (c .before .t2 .given .0 .0) _ (bringing c)
 
+enum-known-t-3 : tie.Need-enum-known-t-3
+enum-known-t-3 c = search needs
+
+cast-lowered-well-3 : tie.Need-cast-lowered-well-3
+cast-lowered-well-3 c = search needs
+
+sub-lowered-well-3 : tie.Need-sub-lowered-well-3
+sub-lowered-well-3 c = returning c .0
+
+lowered-well-requires-3 : tie.Need-lowered-well-requires-3
+lowered-well-requires-3 c κs = well-leaves held (c .before .before .before .args .aquifers) (c .before .t3 .given .0 .0) _ (returning c)
+
 returns : tie.Need-returns
 returns c =
     let ws = c .before .before .args .aquifers in
@@ -75,6 +93,12 @@ returns-4 c =
     c .lowered-well2 .ensures ∙ well-changed _-_ less-none ws _ _ (bringing (c .before) .0)
     ∙ ap (λ (t : Title). loweredWells t ws) (sym (c .before .before .t2 .given .1))
 
+returns-5 : tie.Need-returns-5
+returns-5 c =
+    let ws = c .before .before .before .before .args .aquifers in
+    c .lowered-well3 .ensures ∙ well-changed _-_ less-none ws _ _ (returning (c .before) .0)
+    ∙ ap (λ (t : Title). loweredWells t ws) (sym (c .before .before .t3 .given .1))
+
 pub lowered-wells-spec : {M : Type 1} → statement M
 lowered-wells-spec =
     tie.close
@@ -89,7 +113,12 @@ lowered-wells-spec =
     cast-lowered-well-2
     sub-lowered-well-2
     lowered-well-requires-2
+    enum-known-t-3
+    cast-lowered-well-3
+    sub-lowered-well-3
+    lowered-well-requires-3
     returns
     returns-2
     returns-3
-    returns-4)
+    returns-4
+    returns-5)

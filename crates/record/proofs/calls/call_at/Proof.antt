@@ -1,6 +1,6 @@
 -- `record::call_at` meets its contract. Assumes nothing.
 use mathlib.Core.Path.{refl, sym, _∙_}
-use Rattle.record.specs.declared.CallMark.the-variants.{Gu, Ga, Tu, Ta, Ca, None}
+use Rattle.record.specs.declared.CallMark.the-variants.{Gu, Ga, Tu, Ta, Gw, Ca, None}
 use Rattle.record.proofs.Calling.{calls-end, calls-lone, calls-marked}
 use borrow.Author.Needs.{needs}
 use Rattle.record.proofs.calls.call_at.Statement.{statement}
@@ -54,11 +54,17 @@ bringing-at-requires c κs = search needs
 enum-told-5 : tie.Need-enum-told-5
 enum-told-5 c = search needs
 
-cancellation-at-requires : tie.Need-cancellation-at-requires
-cancellation-at-requires c κs = search needs
+returning-at-requires : tie.Need-returning-at-requires
+returning-at-requires c κs = search needs
 
 enum-told-6 : tie.Need-enum-told-6
 enum-told-6 c = search needs
+
+cancellation-at-requires : tie.Need-cancellation-at-requires
+cancellation-at-requires c κs = search needs
+
+enum-told-7 : tie.Need-enum-told-7
+enum-told-7 c = search needs
 
 returns-3 : tie.Need-returns-3
 returns-3 c =
@@ -87,14 +93,20 @@ returns-6 c =
 returns-7 : tie.Need-returns-7
 returns-7 c =
     let start = c .before .before .before .before .before .before .before .before .before in
-    calls-marked (start .args .s .now) (start .args .at) Ca _ (c .before .before .before .before .before .before .before .if1 .left) (c .before .before .before .before .before .before .if2 .left)
-    (sym (c .before .enum-told5 .given .1) ∙ c .before .before .before .call-mark .ensures) (c .cancellation-at .ensures)
+    calls-marked (start .args .s .now) (start .args .at) Gw _ (c .before .before .before .before .before .before .before .if1 .left) (c .before .before .before .before .before .before .if2 .left)
+    (sym (c .before .enum-told5 .given .1) ∙ c .before .before .before .call-mark .ensures) (c .returning-at .ensures)
 
 returns-8 : tie.Need-returns-8
 returns-8 c =
+    let start = c .before .before .before .before .before .before .before .before .before in
+    calls-marked (start .args .s .now) (start .args .at) Ca _ (c .before .before .before .before .before .before .before .if1 .left) (c .before .before .before .before .before .before .if2 .left)
+    (sym (c .before .enum-told6 .given .1) ∙ c .before .before .before .call-mark .ensures) (c .cancellation-at .ensures)
+
+returns-9 : tie.Need-returns-9
+returns-9 c =
     let start = c .before .before .before .before .before .before .before .before in
     calls-marked (start .args .s .now) (start .args .at) None _ (c .before .before .before .before .before .before .if1 .left) (c .before .before .before .before .before .if2 .left)
-    (sym (c .enum-told6 .given .1) ∙ c .before .before .call-mark .ensures) refl
+    (sym (c .enum-told7 .given .1) ∙ c .before .before .call-mark .ensures) refl
 
 pub call-at-spec : {M : Type 1} → statement M
 call-at-spec =
@@ -116,11 +128,14 @@ call-at-spec =
     enum-told-4
     bringing-at-requires
     enum-told-5
-    cancellation-at-requires
+    returning-at-requires
     enum-told-6
+    cancellation-at-requires
+    enum-told-7
     returns-3
     returns-4
     returns-5
     returns-6
     returns-7
-    returns-8)
+    returns-8
+    returns-9)

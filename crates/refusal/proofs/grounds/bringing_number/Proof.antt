@@ -5,7 +5,7 @@ use mathlib.Core.Bool.{_||_}
 use lib.ListN.{getD}
 use native.Mathlib.Omega.{arith}
 use native.Mathlib.Numerals.{sub-one}
-use Rattle.laws.proofs.Chain.{hit, miss, t-and, f-and, f-and-on}
+use Rattle.laws.proofs.Chain.{hit, miss, t-and, f-and, f-and-on, or-none}
 use Rattle.model.specs.Fresh.{emptyUnit, emptyAquifer}
 use Rattle.basin.proofs.Soundness.{number-exists, Exists}
 use Rattle.refusal.specs.Grant.{past}
@@ -57,7 +57,7 @@ returns c =
     let k = sub-one (start .args .unit) in
     let e =
     c .before .either-past .ensures
-    ∙ (λ i. past (getD (start .args .t3) (j i) emptyAquifer .extraction + start .args .volume) || past (getD (start .args .t1) (k i) emptyUnit .imports + start .args .volume)) in
+    ∙ (λ i. past (getD (start .args .t3) (j i) emptyAquifer .extraction + start .args .volume) || or-none (past (getD (start .args .t1) (k i) emptyUnit .imports + start .args .volume)) i) in
     hit _ _ _ _ (t-and _ _ (sym (c .before .before .before .before .before .before .before .exists .ensures) ∙ c .before .before .before .before .before .before .if1 .taken) (sym (c .before .before .before .before .before .exists2 .ensures) ∙ c .before .before .before .before .if2 .taken))
     (c .volume-number .ensures ∙ ap (volumeNumber (start .args .given) (start .args .volume)) e)
 

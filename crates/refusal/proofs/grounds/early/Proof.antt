@@ -38,6 +38,12 @@ enum-known-t-4 c = search needs
 bringing-number-requires : tie.Need-bringing-number-requires
 bringing-number-requires c κs = search needs
 
+enum-known-t-5 : tie.Need-enum-known-t-5
+enum-known-t-5 c = search needs
+
+returning-number-requires : tie.Need-returning-number-requires
+returning-number-requires c κs = search needs
+
 returns : tie.Need-returns
 returns c = c .withdrawal-number .ensures ∙ ap (earlyNumber (entries (c .before .before .before .before))) (sym (c .before .before .t .given .1))
 
@@ -56,6 +62,9 @@ returns-3 c =
 returns-4 : tie.Need-returns-4
 returns-4 c = c .bringing-number .ensures ∙ ap (earlyNumber (entries (c .before .before .before .before))) (sym (c .before .before .t4 .given .1))
 
+returns-5 : tie.Need-returns-5
+returns-5 c = c .returning-number .ensures ∙ ap (earlyNumber (entries (c .before .before .before .before))) (sym (c .before .before .t5 .given .1))
+
 pub early-spec : {M : Type 1} → statement M
 early-spec =
     tie.close
@@ -68,7 +77,10 @@ early-spec =
     transfer-number-requires
     enum-known-t-4
     bringing-number-requires
+    enum-known-t-5
+    returning-number-requires
     returns
     returns-2
     returns-3
-    returns-4)
+    returns-4
+    returns-5)

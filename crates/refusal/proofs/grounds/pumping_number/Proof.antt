@@ -4,7 +4,7 @@ use mathlib.Core.Path.{refl, sym, ap, _∙_}
 use lib.ListN.{getD}
 use native.Mathlib.Omega.{arith}
 use native.Mathlib.Numerals.{sub-one}
-use Rattle.laws.proofs.Chain.{hit, miss}
+use Rattle.laws.proofs.Chain.{hit, miss, or-none}
 use Rattle.model.specs.Fresh.{emptyAquifer}
 use Rattle.basin.proofs.Soundness.{number-exists, Exists}
 use Rattle.refusal.specs.Grant.{past}
@@ -38,7 +38,7 @@ returns : tie.Need-returns
 returns c =
     let start = c .before .before .before .before .before in
     let k = sub-one (start .args .aquifer) in
-    let e = c .before .past .ensures ∙ (λ i. past (getD (start .args .t1) (k i) emptyAquifer .extraction + start .args .volume)) in
+    let e = c .before .past .ensures ∙ (λ i. past (getD (start .args .t1) (k i) emptyAquifer .extraction + start .args .volume)) ∙ or-none _ in
     hit _ _ _ _ (sym (c .before .before .before .before .exists .ensures) ∙ c .before .before .before .if1 .taken) (c .volume-number .ensures ∙ ap (volumeNumber (start .args .given) (start .args .volume)) e)
 
 returns-2 : tie.Need-returns-2

@@ -7,7 +7,7 @@ use lib.ListN.{getD}
 use native.Mathlib.Omega.{arith}
 use native.Mathlib.Numerals.{sub-one}
 use borrow.Author.Needs.{needs}
-use Rattle.laws.proofs.Chain.{hit, miss, t-and, f-and, f-and-on}
+use Rattle.laws.proofs.Chain.{hit, miss, t-and, f-and, f-and-on, or-none}
 use Rattle.model.specs.Fresh.{emptyUnit}
 use Rattle.basin.proofs.Soundness.{number-exists, Exists}
 use Rattle.refusal.specs.Grant.{past}
@@ -74,7 +74,7 @@ returns-2 c =
     let k = sub-one (start .args .to) in
     let e =
     c .before .either-past .ensures
-    ∙ (λ i. past (getD (start .args .t1) (j i) emptyUnit .exports + start .args .volume) || past (getD (start .args .t1) (k i) emptyUnit .imports + start .args .volume)) in
+    ∙ (λ i. past (getD (start .args .t1) (j i) emptyUnit .exports + start .args .volume) || or-none (past (getD (start .args .t1) (k i) emptyUnit .imports + start .args .volume)) i) in
     hit _ _ _ _
     (t-and _ _ (sym (else .before .before .before .before .before .exists .ensures) ∙ else .before .before .before .before .if1 .taken)
     (sym (else .before .before .before .exists2 .ensures) ∙ else .before .before .if2 .taken))

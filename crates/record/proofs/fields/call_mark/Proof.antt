@@ -1,8 +1,8 @@
 -- `record::call_mark` meets its contract. Assumes nothing.
 use Rattle.laws.proofs.Chain.{chain}
 use borrow.Author.Needs.{needs}
-use Rattle.record.proofs.calls.call_mark.Statement.{statement}
-use Rattle.record.proofs.calls.call_mark.Tie as tie
+use Rattle.record.proofs.fields.call_mark.Statement.{statement}
+use Rattle.record.proofs.fields.call_mark.Tie as tie
 
 spells-requires : tie.Need-spells-requires
 spells-requires c κs = search needs
@@ -34,8 +34,14 @@ spells-requires-5 c κs = search needs
 returns-5 : tie.Need-returns-5
 returns-5 c = search chain depth 16
 
+spells-requires-6 : tie.Need-spells-requires-6
+spells-requires-6 c κs = search needs
+
 returns-6 : tie.Need-returns-6
 returns-6 c = search chain depth 16
+
+returns-7 : tie.Need-returns-7
+returns-7 c = search chain depth 16
 
 pub call-mark-spec : {M : Type 1} → statement M
 call-mark-spec =
@@ -51,4 +57,6 @@ call-mark-spec =
     returns-4
     spells-requires-5
     returns-5
-    returns-6)
+    spells-requires-6
+    returns-6
+    returns-7)
