@@ -4,3 +4,4 @@ pub mod books;
 pub mod plain;
 pub mod proved;
 pub mod rows;
+pub mod states;

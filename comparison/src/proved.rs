@@ -1,4 +1,4 @@
-//! The proved library, by the interface in `../include/hasheqro.h`.
+//! The proved library, by the interface in `../include/hasheqro.h`, and the functions that repeat what planning states do.
 
 use reference::basin::{MOST_AQUIFERS, MOST_UNITS};
 
@@ -49,6 +49,9 @@ mod link {
         pub fn hasheqro_open(book: *const u8, length: usize) -> u64;
         pub fn hasheqro_run(book: *const u8, length: usize) -> u64;
         pub fn hasheqro_refigure(book: *const u8, length: usize, times: u64) -> u64;
+        pub fn hasheqro_rekeep(book: *const u8, length: usize, times: u64) -> u64;
+        pub fn hasheqro_reback(book: *const u8, length: usize, times: u64) -> u64;
+        pub fn hasheqro_reask(book: *const u8, length: usize, times: u64) -> u64;
     }
 }
 
@@ -83,4 +86,20 @@ pub fn run(book: &[u8]) -> u64 {
 /// Opens a book, runs its calls and works out all figures so many times; how often they were given.
 pub fn refigure(book: &[u8], times: u64) -> u64 {
     unsafe { link::hasheqro_refigure(book.as_ptr(), book.len(), times) }
+}
+
+/// Opens a book, runs its calls, keeps the balance under four names, and keeps it under them in turn
+/// so many times; how often that was accepted.
+pub fn rekeep(book: &[u8], times: u64) -> u64 {
+    unsafe { link::hasheqro_rekeep(book.as_ptr(), book.len(), times) }
+}
+
+/// The same, going back to the four names in turn.
+pub fn reback(book: &[u8], times: u64) -> u64 {
+    unsafe { link::hasheqro_reback(book.as_ptr(), book.len(), times) }
+}
+
+/// The same, cancelling number 0 of the current balance; how often that was refused.
+pub fn reask(book: &[u8], times: u64) -> u64 {
+    unsafe { link::hasheqro_reask(book.as_ptr(), book.len(), times) }
 }

@@ -1,6 +1,7 @@
 //! What is timed: the rows of the tables, each for the three contestants.
 
 use crate::books::{self, Register, Tree, UNITS};
+use crate::states::{self, Operation};
 use crate::{plain, proved};
 use reference::record::Call;
 use reference::{basin, book, fast, register};
@@ -34,7 +35,8 @@ impl Contestant {
     }
 }
 
-/// What is done with the book of a row. One operation is one opening, one call or the figures once.
+/// What is done with the book of a row. One operation is one opening, one call, the figures once, or one
+/// operation on a planning state.
 pub enum Work {
     /// Opens the book.
     Open,
@@ -48,6 +50,9 @@ pub enum Work {
     },
     /// Opens the book, runs its calls, then tests the state and works out all figures.
     Figures,
+    /// Opens the book, runs its calls, keeps the balance under four names, then does one operation on
+    /// the state again and again.
+    States(Operation),
 }
 
 /// One row of the tables.
@@ -85,6 +90,23 @@ impl Row {
         }
     }
 
+    fn states(
+        name: &str,
+        meaning: &str,
+        register: Register,
+        operation: Operation,
+        most: usize,
+    ) -> Row {
+        Row {
+            name: name.to_string(),
+            meaning: meaning.to_string(),
+            book: register.book,
+            work: Work::States(operation),
+            most,
+            counted: (4, 12),
+        }
+    }
+
     /// A row of calls that are repeated in turn and change nothing.
     fn repeated(
         name: &str,
@@ -114,7 +136,7 @@ impl Row {
     pub fn contestants(&self) -> &'static [Contestant] {
         match self.work {
             Work::Calls { .. } => &CONTESTANTS,
-            Work::Open | Work::Figures => &CONTESTANTS[..3],
+            Work::Open | Work::Figures | Work::States(_) => &CONTESTANTS[..3],
         }
     }
 
@@ -125,6 +147,7 @@ impl Row {
             Work::Open => (0..times).map(|_| open(who, black_box(book))).sum(),
             Work::Calls { lengths, .. } => run(who, &book[..lengths[times]]),
             Work::Figures => refigure(who, book, times as u64),
+            Work::States(operation) => restate(who, *operation, book, times as u64),
         }
     }
 }
@@ -198,6 +221,14 @@ fn refigure_fast(state: &fast::State, times: u64) -> u64 {
         }
     }
     given
+}
+
+fn restate(who: Contestant, operation: Operation, book: &[u8], times: u64) -> u64 {
+    match who {
+        Contestant::Proved => states::proved(operation, book, times),
+        Contestant::Plain => states::plain(operation, book, times),
+        Contestant::Fast | Contestant::Untested => states::fast(operation, book, times),
+    }
 }
 
 /// A row that is made when it is wanted.
@@ -474,6 +505,32 @@ pub fn figures() -> Vec<Planned> {
     ]
 }
 
+/// (d) Planning states of 64 units and 32 aquifers, with four balances kept.
+pub fn planning_states() -> Vec<Planned> {
+    let mut rows = of_operation("keep", "keeping under a used name", Operation::Keep, 1000);
+    rows.extend(of_operation("back", "going back", Operation::Back, 1000));
+    let asked = "a cancellation refused at 19";
+    rows.extend(of_operation("ask", asked, Operation::Ask, 10_000));
+    rows
+}
+
+/// The rows of an operation, with few titles in force and with many.
+fn of_operation(
+    kind: &str,
+    meaning: &'static str,
+    operation: Operation,
+    most: usize,
+) -> Vec<Planned> {
+    let of = |titles: usize| {
+        planned(&format!("state-{kind}-{titles}-titles"), move |name| {
+            let meaning = format!("{meaning}, {titles} titles in force");
+            let register = Register::filled(UNITS, titles);
+            Row::states(name, &meaning, register, operation, most)
+        })
+    };
+    vec![of(16), of(255)]
+}
+
 /// The numbers of units and of titles at which growth is shown.
 pub const UNIT_COUNTS: [usize; 4] = [8, 16, 32, 64];
 pub const TITLE_COUNTS: [usize; 3] = [16, 64, 256];
@@ -515,6 +572,7 @@ pub fn tables() -> Vec<(&'static str, Vec<Planned>)> {
         ("Opening", openings()),
         ("Calls", calls()),
         ("Figures", figures()),
+        ("States", planning_states()),
         ("Growth of calls", growing_calls()),
         ("Growth of figures", growing_figures()),
     ]

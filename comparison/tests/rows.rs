@@ -1,8 +1,8 @@
 //! The books for timing do what their rows say.
 
-use comparison::plain;
 use comparison::rows::{self, Row, Work, CONTESTANTS};
-use reference::register::Title;
+use comparison::{plain, states};
+use reference::register::{in_force, Title};
 use reference::LONGEST_BOOK;
 
 fn all() -> Vec<Row> {
@@ -83,6 +83,34 @@ fn the_returning_rows_have_such_titles_but_one() {
         let others = ran.balance.titles.iter();
         let others = others.filter(|r| !matches!(r.title, Title::ReturningWithdrawal { .. }));
         assert_eq!(others.count(), 1, "{}", row.name);
+    }
+}
+
+#[test]
+fn the_rows_of_states_have_so_many_titles_in_force() {
+    let rows = rows::planning_states();
+    assert_eq!(rows.len(), 6);
+    for (planned, titles) in rows.iter().zip([16, 255].into_iter().cycle()) {
+        let Ok(ran) = plain::run(&(planned.make)().book) else {
+            panic!("{}", planned.name);
+        };
+        assert_eq!(in_force(&ran.balance).count(), titles, "{}", planned.name);
+        assert_eq!(ran.balance.units.len(), 64, "{}", planned.name);
+        assert!(planned.name.ends_with(&format!("-{titles}-titles")));
+    }
+}
+
+#[test]
+fn every_operation_on_a_state_is_done() {
+    let refused = b"UN".to_vec();
+    let books = rows::planning_states().into_iter();
+    let books = books.map(|planned| (planned.make)().book).chain([refused]);
+    for book in books {
+        for operation in states::OPERATIONS {
+            assert_eq!(states::proved(operation, &book, 9), 9, "{operation:?}");
+            assert_eq!(states::plain(operation, &book, 9), 9, "{operation:?}");
+            assert_eq!(states::fast(operation, &book, 9), 9, "{operation:?}");
+        }
     }
 }
 

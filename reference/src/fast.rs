@@ -8,6 +8,7 @@ use crate::basin::{is_storage_change, is_term, Aquifer, Unit};
 use crate::basin::{LARGEST_TERM, MOST_AQUIFERS, MOST_UNITS};
 use crate::book::{Refusal, FEWEST_YEARS, MOST_AREAS, MOST_HECTARES, MOST_YEARS};
 use crate::book::{LARGEST_GAUGED, LEAST_RAIN, LEAST_TENTHS, MOST_RAIN, MOST_TENTHS};
+use crate::planning::{self, Name, MOST_KEPT};
 use crate::record::Call;
 use crate::register::{return_of, Registered, Reply, Title, MOST_TITLES, RETURN_PERCENT};
 use crate::{report, LONGEST_BOOK};
@@ -685,6 +686,92 @@ fn some_availability_negative(units: &[Unit], flows: &Flows, outlet: usize) -> b
         demands.meet(index);
         demands.availability(index) < 0
     })
+}
+
+// Planning states
+
+/// The current state, and those kept under names. Places from the count on are unused.
+#[derive(Clone, Debug)]
+pub struct Plans {
+    pub current: State,
+    pub count: usize,
+    pub names: [Name; MOST_KEPT],
+    pub kept: [State; MOST_KEPT],
+}
+
+impl Plans {
+    /// A current state with nothing kept.
+    pub fn of(current: State) -> Plans {
+        Plans {
+            current,
+            count: 0,
+            names: [[0; 8]; MOST_KEPT],
+            kept: [(); MOST_KEPT].map(|_| State::empty()),
+        }
+    }
+
+    fn place_of(&self, name: Name) -> Option<usize> {
+        let mut names = self.names[..self.count].iter();
+        names.position(|kept| *kept == name)
+    }
+
+    /// The place of a name, or the next one, which takes it; nothing if no place is left.
+    fn place_for(&mut self, name: Name) -> Option<usize> {
+        let place = self.place_of(name).unwrap_or(self.count);
+        *self.names.get_mut(place)? = name;
+        self.count = self.count.max(place + 1);
+        Some(place)
+    }
+}
+
+/// Keeps the current state under a name. A refused call changes nothing.
+pub fn keep(plans: &mut Plans, name: Name) -> planning::Reply {
+    if plans_faulty(plans) {
+        return planning::Reply::Refused(0);
+    }
+    match plans.place_for(name) {
+        Some(place) => {
+            copy(&plans.current, &mut plans.kept[place]);
+            planning::Reply::Kept
+        }
+        None => planning::Reply::Refused(22),
+    }
+}
+
+/// Makes the state kept under a name the current one. A refused call changes nothing.
+pub fn back(plans: &mut Plans, name: Name) -> planning::Reply {
+    if plans_faulty(plans) {
+        return planning::Reply::Refused(0);
+    }
+    match plans.place_of(name) {
+        Some(place) => {
+            copy(&plans.kept[place], &mut plans.current);
+            planning::Reply::Back
+        }
+        None => planning::Reply::Refused(23),
+    }
+}
+
+/// Copies what a state that isn't faulty has in use.
+fn copy(from: &State, to: &mut State) {
+    to.unit_count = from.unit_count;
+    to.aquifer_count = from.aquifer_count;
+    to.title_count = from.title_count;
+    to.units[..from.unit_count].copy_from_slice(from.units());
+    to.aquifers[..from.aquifer_count].copy_from_slice(from.aquifers());
+    to.titles[..from.title_count].copy_from_slice(from.titles());
+}
+
+/// The test for refusal 0 of keeping and going back.
+pub fn plans_faulty(plans: &Plans) -> bool {
+    plans.count > MOST_KEPT
+        || is_faulty(&plans.current)
+        || plans.kept[..plans.count].iter().any(is_faulty)
+        || some_twice(&plans.names[..plans.count])
+}
+
+fn some_twice(names: &[Name]) -> bool {
+    (1..names.len()).any(|place| names[..place].contains(&names[place]))
 }
 
 // Reading

@@ -147,7 +147,7 @@ fn accepted(balance: &Balance, call: &Call) -> Result<(Reply, Balance), u8> {
     }
 }
 
-fn refuse_if(fault: bool, number: u8) -> Result<(), u8> {
+pub(crate) fn refuse_if(fault: bool, number: u8) -> Result<(), u8> {
     match fault {
         true => Err(number),
         false => Ok(()),

@@ -1,6 +1,7 @@
 //! The fast model against the plain one.
 
 use reference::book;
+use reference::planning::{self, Name, MOST_KEPT};
 use reference::random::{self, Source};
 use reference::record::Call;
 use reference::register::{self, Balance, Registered, Reply, Title};
@@ -319,4 +320,134 @@ fn changed_balances_are_refused_the_same() {
         }
     }
     assert!(faulty > 3000 && sound > 3000, "{faulty} {sound}");
+}
+
+// Planning states
+
+/// The plans with what a state holds, as far as it fits, and its counts.
+fn plans_of(state: &planning::State) -> fast::Plans {
+    let mut plans = fast::Plans::of(state_of(&state.balance));
+    plans.count = state.kept.len();
+    for (place, (name, balance)) in state.kept.iter().take(MOST_KEPT).enumerate() {
+        plans.names[place] = *name;
+        plans.kept[place] = state_of(balance);
+    }
+    plans
+}
+
+/// Checks the counts, and what is in use as far as it fits.
+fn assert_same_state(state: &fast::State, balance: &Balance) {
+    assert_eq!(state.unit_count, balance.units.len());
+    assert_eq!(state.aquifer_count, balance.aquifers.len());
+    assert_eq!(state.title_count, balance.titles.len());
+    assert!(state.units.iter().zip(&balance.units).all(|(f, p)| f == p));
+    let mut aquifers = state.aquifers.iter().zip(&balance.aquifers);
+    assert!(aquifers.all(|(fast, plain)| fast == plain));
+    let mut titles = state.titles.iter().zip(&balance.titles);
+    assert!(titles.all(|(fast, plain)| fast == plain));
+}
+
+fn assert_same_plans(plans: &fast::Plans, state: &planning::State) {
+    assert_same_state(&plans.current, &state.balance);
+    assert_eq!(plans.count, state.kept.len());
+    let places = plans.names.iter().zip(&plans.kept);
+    for ((name, kept), (plain_name, balance)) in places.zip(&state.kept) {
+        assert_eq!(name, plain_name);
+        assert_same_state(kept, balance);
+    }
+}
+
+/// Both models of a planning state.
+struct Both {
+    plans: fast::Plans,
+    state: planning::State,
+}
+
+impl Both {
+    fn of(state: planning::State) -> Both {
+        let plans = plans_of(&state);
+        Both { plans, state }
+    }
+
+    fn keep(&mut self, name: Name) -> planning::Reply {
+        let (reply, after) = planning::keep(&self.state, name);
+        self.state = after;
+        assert_eq!(fast::keep(&mut self.plans, name), reply);
+        assert_same_plans(&self.plans, &self.state);
+        reply
+    }
+
+    fn back(&mut self, name: Name) -> planning::Reply {
+        let (reply, after) = planning::back(&self.state, name);
+        self.state = after;
+        assert_eq!(fast::back(&mut self.plans, name), reply);
+        assert_same_plans(&self.plans, &self.state);
+        reply
+    }
+
+    fn call(&mut self, call: &Call) {
+        let (reply, after) = register::apply(&self.state.balance, call);
+        self.state.balance = after;
+        assert_eq!(fast::apply(&mut self.plans.current, call), reply);
+        assert_same_plans(&self.plans, &self.state);
+    }
+}
+
+/// One of six names: zeros, others that differ in the first or the last byte, and all ones.
+fn name(s: &mut Source) -> Name {
+    let numbers = [0, 1, 2, 1 << 56, (1 << 56) + 1, u64::MAX];
+    s.pick(&numbers).to_le_bytes()
+}
+
+/// Changes the current balance, a kept one, a name or how many are kept.
+fn change_state(s: &mut Source, state: &mut planning::State) {
+    let place = s.below(MOST_KEPT);
+    match (s.below(4), state.kept.get_mut(place)) {
+        (0, _) => change_balance(s, &mut state.balance),
+        (1, Some((_, kept))) => change_balance(s, kept),
+        (2, Some((other, _))) => *other = name(s),
+        _ => state.kept.resize(s.below(7), Default::default()),
+    }
+}
+
+/// Keeps, goes back, makes the next call, or keeps and goes back in a changed copy. Returns the replies.
+fn step(s: &mut Source, both: &mut Both, call: &Call) -> Vec<planning::Reply> {
+    match s.below(8) {
+        0..=1 => vec![both.keep(name(s))],
+        2..=3 => vec![both.back(name(s))],
+        4..=5 => {
+            both.call(call);
+            Vec::new()
+        }
+        _ => {
+            let mut changed = both.state.clone();
+            change_state(s, &mut changed);
+            let mut changed = Both::of(changed);
+            vec![changed.back(name(s)), changed.keep(name(s))]
+        }
+    }
+}
+
+#[test]
+fn keeping_and_going_back_change_the_same() {
+    let s = &mut Source::new(3);
+    let mut replies = Vec::new();
+    for seed in 50_000..51_600 {
+        let book = random::book(seed);
+        let (state, _) = planning::open(&book);
+        let mut both = Both::of(state);
+        for (_, call) in balances(&book).iter().take(60) {
+            replies.extend(step(s, &mut both, call));
+        }
+    }
+    for reply in [
+        planning::Reply::Kept,
+        planning::Reply::Back,
+        planning::Reply::Refused(0),
+        planning::Reply::Refused(22),
+        planning::Reply::Refused(23),
+    ] {
+        let count = replies.iter().filter(|other| **other == reply).count();
+        assert!(count > 300, "{reply:?} {count}");
+    }
 }

@@ -3,7 +3,7 @@
 //!     compare SEED COUNT    the random books of COUNT seeds from SEED on
 //!     compare --named       the boundary books
 
-use comparison::{plain, proved};
+use comparison::{plain, proved, states};
 use reference::register::Reply;
 use reference::{boundary, random, text};
 use std::process::ExitCode;
@@ -14,6 +14,8 @@ use std::thread;
 const STACK: usize = 64 << 20;
 /// How many books a thread takes at once.
 const SHARE: u64 = 16;
+/// How often an operation on a planning state is repeated.
+const TIMES: u64 = 5;
 
 /// A book and how it is called.
 struct Subject {
@@ -190,6 +192,17 @@ fn differences(book: &[u8], out: &mut [u8; proved::ROOM], tally: &mut Tally) -> 
         proved::refigure(book, 3).to_string(),
         3.to_string(),
     );
+    let balance = ran.as_ref().map(|ran| ran.balance.clone());
+    let state = states::with_four_kept(balance.unwrap_or_default());
+    for operation in states::OPERATIONS {
+        let reference = states::repeat_plain(operation, state.clone(), TIMES);
+        let proved = states::proved(operation, book, TIMES);
+        ask(
+            operation.function(),
+            proved.to_string(),
+            reference.to_string(),
+        );
+    }
     tally.books += 1;
     tally.bytes_read += book.len() as u64;
     tally.bytes_printed += expected.len() as u64;

@@ -1,23 +1,24 @@
 -- The end of a description, from the balance under construction, is the end that the definition gives. Assumes nothing.
-use Prim.Native.Nat.{ℕ, zero, suc, _+_, _≤_, _<_}
+use Prim.Native.Nat.{ℕ, suc, _≤_, _<_}
 use mathlib.Core.Path.{_≡_, refl, sym, ap, _∙_, subst⁻¹}
 use mathlib.Core.Logic.{_⊎_}
-use mathlib.Core.Bool.{Bool, not}
+use mathlib.Core.Bool.{not}
 use lib.Dec.{ltb}
 use lib.Signed.{nonNeg}
 use lib.ListN.{length, getD}
 use native.Mathlib.Omega.{arith}
 use borrow.Author.Tests.{eq-eqb, ne-eqb}
-use Rattle.laws.proofs.Cases.{by-eq, by-bool}
+use Rattle.laws.proofs.Cases.{by-eq}
 use Rattle.laws.proofs.Arrays.{getD-table}
 use Rattle.model.specs.declared.Unit.{Unit}
 use Rattle.model.specs.declared.Balance.{Balance}
 use Rattle.model.specs.declared.Found.{Found}
 use Rattle.model.specs.declared.Found.the-variants.{At, Nothing}
-use Rattle.model.specs.Answers.{firstFrom, first}
+use Rattle.model.specs.Answers.{first}
 use Rattle.model.specs.Fresh.{emptyUnit, emptyAquifer}
 use Rattle.model.specs.View.{viewOf}
 use Rattle.river.specs.Flow.{downstream, flow, gain, loss}
+use Rattle.river.proofs.Firsts.{first-same}
 use Rattle.runoff.specs.Record.{gaugedOn, sumOn}
 use Rattle.runoff.proofs.Rounding.{natural-within}
 use Rattle.record.specs.Described.{DescribedUnit, noUnit, summed, unitOf}
@@ -26,20 +27,6 @@ use Rattle.book.specs.Reading.{Description, lastSums, balanceOf, Outcome
 use Rattle.book.specs.Opening.{draft, missing, negative, unlessAt, testedWith, endedWith, Bounded, EndReady}
 use Rattle.record.proofs.Clean.{Fine, closing-clean}
 use Rattle.book.proofs.Growing.{Good, all-closed, full-is}
-
--- The first place of tests that agree is the same.
-first-from-same : (n s : ℕ) (t r : ℕ → Bool) → ((k : ℕ) → s ≤ k → k < n + s → t k ≡ r k) → firstFrom n s t ≡ firstFrom n s r
-unfolding firstFrom
-first-from-same zero s t r e = refl
-first-from-same (suc n) s t r e =
-    let q = e s (omega arith) (omega arith) in
-    let on = first-from-same n (suc s) t r (λ k a b. e k (omega arith) (omega arith)) in
-    by-bool (r s)
-    (λ g. rw (q ∙ g, g, firstFrom))
-    (λ g. rw (q ∙ g, g, firstFrom) on)
-
-first-same : (n : ℕ) (t r : ℕ → Bool) → ((k : ℕ) → k < n → t k ≡ r k) → first n t ≡ first n r
-first-same n t r e = first-from-same n 0 t r (λ k a b. e k (omega arith))
 
 -- The unit and the aquifer at an index of the description's balance.
 module _ (d : Description) (good : Good d) where

@@ -27,7 +27,7 @@ use Rattle.conservation.specs.Replies.{Said, replies, numberFor, saying,
 use Rattle.conservation.proofs.Following.{Follows, changed, carried, replied-to, same-refusal, follows-start, follows-call}
 
 -- What a reply says.
-abbrev saidBy : Reply → Said
+abbrev pub saidBy : Reply → Said
 saidBy r = record { answer = r .answer; number = r .number }
 
 said-by : (r : Refusal) (old new : Balance) (n : ℕ) → saidBy (replied r old new n) ≡ saying r n
@@ -40,7 +40,7 @@ module _ (d : Description) (b : Balance) (t : Tally) (f : Follows d b t) where
   same-number (Grant x) = omega (arith, ap (λ (v : View). v .given) (f .same))
   same-number (Cancel n) = refl
 
-  same-saying : (c : Call) → saidBy (callReply b c) ≡ saying (tallyRefusal d t c) (numberFor t c)
+  pub same-saying : (c : Call) → saidBy (callReply b c) ≡ saying (tallyRefusal d t c) (numberFor t c)
   same-saying c =
       ap saidBy (replied-to b c (f .stands))
       ∙ said-by (callRefusal (viewOf b) c) b (changed b c) (carried b c)

@@ -126,9 +126,13 @@ filled-table n d f count w p =
     (λ g. p .done j g ∙ sym (getD-tabulate n _ d j (omega (arith, p .long)) ∙ rw (lt-ltb j count g)))
     (λ g. p .rest j g ∙ sym (getD-tabulate n _ d j (omega (arith, p .long)) ∙ rw (le-ltb j count g))))
 
-pub getD-table : {A : Type 0} (n : ℕ) (d : A) (count : ℕ) (f : ℕ → A) (j : ℕ) → j < count → j < n → getD (table n d count f) j d ≡ f j
+-- A table holds f in its first places, whatever a list reads past its end.
+pub table-at : {A : Type 0} (n : ℕ) (d : A) (count : ℕ) (f : ℕ → A) (e : A) (j : ℕ) → j < count → j < n → getD (table n d count f) j e ≡ f j
 unfolding table
-getD-table n d count f j g h = getD-tabulate n _ d j h ∙ rw (lt-ltb j count g)
+table-at n d count f e j g h = getD-tabulate n _ e j h ∙ rw (lt-ltb j count g)
+
+pub getD-table : {A : Type 0} (n : ℕ) (d : A) (count : ℕ) (f : ℕ → A) (j : ℕ) → j < count → j < n → getD (table n d count f) j d ≡ f j
+getD-table n d count f j g h = table-at n d count f d j g h
 
 -- The table of f is filled so, and tables of what agrees are equal.
 pub table-filled : {A : Type 0} (n : ℕ) (d : A) (count : ℕ) (f : ℕ → A) → count ≤ n → Filled n d f count (table n d count f)
@@ -147,6 +151,21 @@ pub table-same : {A : Type 0} (n : ℕ) (d : A) (count : ℕ) (f g : ℕ → A) 
 table-same n d count f g c e =
     let p = table-filled n d count f c in
     filled-table n d g count (table n d count f) (record { long = p .long; done = λ j h. p .done j h ∙ e j h; rest = p .rest })
+
+-- One of the first places is set.
+pub table-put : {A : Type 0} (n : ℕ) (d : A) (count : ℕ) (f g : ℕ → A) (i : ℕ) (x : A) → count ≤ n → i < count → x ≡ g i
+    → ((k : ℕ) → k < count → (k ≡ i → ⊥) → f k ≡ g k) → set (table n d count f) i x ≡ table n d count g
+table-put n d count f g i x c h e s =
+    let p = table-filled n d count f c in
+    filled-table n d g count (set (table n d count f) i x)
+    (record {
+      long = length-set (table n d count f) i x ∙ p .long;
+      done = λ j k.
+          by-eq j i
+          (λ q. rw q (getD-set-same (table n d count f) i x d (omega (arith, p .long)) ∙ e))
+          (λ q. getD-set-other (table n d count f) i j x d q ∙ p .done j k ∙ s j k q);
+      rest = λ j k. getD-set-other (table n d count f) i j x d (omega arith) ∙ p .rest j k;
+    })
 
 pub table-more : {A : Type 0} (n : ℕ) (d : A) (count : ℕ) (f : ℕ → A) (x : A) → count < n → x ≡ f count
     → set (table n d count f) count x ≡ table n d (suc count) f

@@ -82,6 +82,11 @@ pub(crate) fn word(n: u64) -> u32 {
     if n <= 4294967295 { n as u32 } else { 0 }
 }
 
+// A number of 16 bits, and 0 for one that is larger.
+pub(crate) fn half(n: u64) -> u16 {
+    if n <= 65535 { n as u16 } else { 0 }
+}
+
 // A number of 8 bits, and 0 for one that is larger.
 pub(crate) fn small(n: u64) -> u8 {
     if n <= 255 { n as u8 } else { 0 }

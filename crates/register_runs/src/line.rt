@@ -8,16 +8,16 @@ use crate::replies::replies;
 use model::Balance;
 
 // Where in a line a byte stands: at its start, in what is printed, in the changes, in a comment.
-const START: u8 = 0;
+pub(crate) const START: u8 = 0;
 
 const NAME: u8 = 1;
 
 const CHANGES: u8 = 2;
 
-const COMMENT: u8 = 3;
+pub(crate) const COMMENT: u8 = 3;
 
 // Where a byte stands, after one that stands at a place.
-fn next_part(part: u8, byte: u8) -> u8 {
+pub(crate) fn next_part(part: u8, byte: u8) -> u8 {
     if byte == b'\n' {
         return START;
     }
@@ -36,7 +36,7 @@ fn next_part(part: u8, byte: u8) -> u8 {
 }
 
 // Prints a byte of the name.
-fn echo(part: u8, byte: u8) {
+pub(crate) fn echo(part: u8, byte: u8) {
     if part == NAME {
         let bytes = [byte];
         print::text(&bytes);
@@ -44,7 +44,7 @@ fn echo(part: u8, byte: u8) {
 }
 
 // The change that is read, after a byte.
-fn next_change(c: Change, part: u8, byte: u8) -> Change {
+pub(crate) fn next_change(c: Change, part: u8, byte: u8) -> Change {
     if part != CHANGES {
         return change::none();
     }

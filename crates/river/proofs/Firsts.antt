@@ -86,3 +86,17 @@ module _ (t : ℕ → Bool) where
       by-bool (every n t)
       (λ q. let z = every-nothing n q in let w : _≡_ {A = ℕ} 0 1 = cc in absurd (omega arith))
       (λ q. q)
+
+-- The first place of tests that agree is the same.
+first-from-same : (n s : ℕ) (t r : ℕ → Bool) → ((k : ℕ) → s ≤ k → k < n + s → t k ≡ r k) → firstFrom n s t ≡ firstFrom n s r
+unfolding firstFrom
+first-from-same zero s t r e = refl
+first-from-same (suc n) s t r e =
+    let q = e s (omega arith) (omega arith) in
+    let on = first-from-same n (suc s) t r (λ k a b. e k (omega arith) (omega arith)) in
+    by-bool (r s)
+    (λ g. rw (q ∙ g, g, firstFrom))
+    (λ g. rw (q ∙ g, g, firstFrom) on)
+
+pub first-same : (n : ℕ) (t r : ℕ → Bool) → ((k : ℕ) → k < n → t k ≡ r k) → first n t ≡ first n r
+first-same n t r e = first-from-same n 0 t r (λ k a b. e k (omega arith))

@@ -2,6 +2,8 @@
 
 #![allow(dead_code)]
 
+pub mod places;
+
 use std::path::Path;
 
 /// A file of a program crate that runs many books or calls through the proved functions.

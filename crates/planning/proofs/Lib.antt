@@ -1,0 +1,4 @@
+-- The proofs of planning states.
+pub mod Naming
+pub mod Replying
+pub mod Promises
