@@ -1,37 +1,35 @@
 -- The program's state follows what was asked, request by request. Assumes nothing.
-use Prim.Native.Nat.{ℕ, suc, _+_, _≤_, _<_}
-use mathlib.Core.Path.{_≡_, refl, sym, ap, subst, subst⁻¹, _∙_}
+use Prim.Native.Nat.{ℕ, _+_, _≤_, _<_}
+use mathlib.Core.Path.{_≡_, sym, ap, subst, subst⁻¹, _∙_}
 use mathlib.Core.Bool.{Bool, true, false, cond, not, _&&_, true≢false}
 use mathlib.Core.List.{List, [], _∷_, _++_}
 use lib.Dec.{leb}
-use lib.ListN.{length, getD, set, length-append}
+use lib.ListN.{length, set}
 use native.Mathlib.Omega.{arith}
 use borrow.Author.Tests.{le-leb, lt-leb}
 use Rattle.laws.specs.Table.{table}
-use Rattle.laws.specs.Sum.{every}
-use Rattle.laws.proofs.Cases.{by-bool, by-eq, by-lt}
+use Rattle.laws.proofs.Cases.{by-bool, by-lt}
 use Rattle.laws.proofs.Every.{each-every}
 use Rattle.laws.proofs.Arrays.{table-at, table-put, table-same, table-more}
 use Rattle.model.specs.declared.Balance.{Balance}
 use Rattle.model.specs.declared.Call.{Call}
 use Rattle.model.specs.declared.Found.the-variants.{At, Nothing}
-use Rattle.model.specs.Answers.{Refusal, none, refuse}
+use Rattle.model.specs.Answers.{none, refuse}
 use Rattle.model.specs.Fresh.{freshBalance}
 use Rattle.model.specs.View.{viewOf}
 use Rattle.river.proofs.Firsts.{first-same}
 use Rattle.basin.specs.Sound.{sound}
-use Rattle.register.specs.Calls.{callReply, after}
+use Rattle.register.specs.Calls.{after}
 use Rattle.book.specs.Reading.{Description}
 use Rattle.conservation.specs.Demand3.{start, tallied}
 use Rattle.conservation.specs.Replies.{Said, saying}
 use Rattle.conservation.proofs.Following.{Follows, follows-calls}
 use Rattle.conservation.proofs.Agreement.{same-saying, after-list}
 use Rattle.planning.specs.declared.Name.{Name}
-use Rattle.planning.specs.declared.State.{State}
 use Rattle.planning.specs.declared.Reply.{Reply}
 use Rattle.planning.specs.Names.{placeLimit, sameName, nameAt, placeOf, distinct}
 use Rattle.planning.specs.State.{emptyName, balanceAt, keptSound, soundState}
-use Rattle.planning.specs.Calls.{placeIn, keepReply, backReply}
+use Rattle.planning.specs.Calls.{placeIn}
 use Rattle.planning.proofs.Naming.{same-self, same-sym, same-through}
 use Rattle.planning.proofs.Replying.{stands, keep-again, keep-fifth, keep-new, back-none, back-to}
 use Rattle.history.specs.Asked.{Request, ask, keep, back, Asked, among, asking, telling}

@@ -7,17 +7,15 @@ use lib.Dec.{leb}
 use lib.ListN.{length, length-append, List·getD-append}
 use lib.Seq.{getD-append-seam}
 use native.Mathlib.Omega.{arith}
-use borrow.Author.Tests.{leb-false}
 use Rattle.laws.proofs.Cases.{by-bool, by-eq}
 use Rattle.model.specs.declared.Found.{Found}
 use Rattle.model.specs.declared.Found.the-variants.{At, Nothing}
-use Rattle.model.specs.declared.Call.{Call}
 use Rattle.model.specs.Answers.{none, refuse}
 use Rattle.river.proofs.Firsts.{at-first, nothing-passed}
 use Rattle.planning.specs.declared.Name.{Name}
 use Rattle.planning.specs.Names.{placeLimit, sameName, nameAt, placeOf}
-use Rattle.planning.proofs.Naming.{same-self, same-sym, same-through}
-use Rattle.history.specs.Asked.{Request, ask, keep, back, Asked, nothingAsked, among, keepRefused, backRefused, keptUnder, unlessRefused, asking}
+use Rattle.planning.proofs.Naming.{same-sym, same-through}
+use Rattle.history.specs.Asked.{keep, back, Asked, nothingAsked, among, unlessRefused, asking}
 
 -- A name is found in a list, or it is at no place of it.
 pub data Sought (ms : List Name) (n : Name) : Type 0 where

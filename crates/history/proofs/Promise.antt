@@ -1,10 +1,8 @@
 -- The promise of keepings and returns, on every accepted book after every list of requests, refused ones included. Assumes nothing.
-use Prim.Native.Nat.{ℕ, _<_}
-use mathlib.Core.Path.{_≡_, refl, sym, ap, subst, subst⁻¹, _∙_}
+use Prim.Native.Nat.{ℕ}
+use mathlib.Core.Path.{_≡_, refl, ap, subst, subst⁻¹, _∙_}
 use mathlib.Core.Bool.{true}
 use mathlib.Core.List.{List, [], _∷_}
-use lib.ListN.{length}
-use native.Mathlib.Omega.{arith}
 use Rattle.laws.proofs.Arrays.{filled-start, filled-table}
 use Rattle.model.specs.declared.Balance.{Balance}
 use Rattle.model.specs.Fresh.{freshBalance}
@@ -16,10 +14,10 @@ use Rattle.conservation.proofs.Following.{Follows, follows-start}
 use Rattle.conservation.proofs.Promise.{demand-3}
 use Rattle.planning.specs.declared.State.{State}
 use Rattle.planning.specs.Names.{placeLimit, nameAt}
-use Rattle.planning.specs.State.{emptyName, nothingKept, balanceAt, soundState}
+use Rattle.planning.specs.State.{emptyName, nothingKept, soundState}
 use Rattle.planning.specs.Calls.{openedState}
 use Rattle.history.specs.Asked.{Request, Asked, nothingAsked, asking, history, telling, tellings}
-use Rattle.history.specs.Claim.{stateAfter, statesAfter, allTold, described, Conserved}
+use Rattle.history.specs.Claim.{statesAfter, allTold, described, Conserved}
 use Rattle.history.proofs.Kept.{Well, well-start}
 use Rattle.history.proofs.Following.{held-balance, sound-described, step}
 

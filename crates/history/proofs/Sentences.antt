@@ -1,9 +1,9 @@
 -- The sentences of document 02 [3], of what was asked. Assumes nothing.
 use Prim.Native.Nat.{suc}
 use mathlib.Core.Path.{_≡_, refl, sym, ap, subst⁻¹, _∙_}
-use mathlib.Core.Bool.{Bool, true, false, cond, not, _&&_, _||_, true≢false}
+use mathlib.Core.Bool.{Bool, true, false, cond, not, _||_, true≢false}
 use mathlib.Core.List.{List, [], _∷_, _++_, append-assoc, append-nil}
-use borrow.Author.Tests.{not-true, not-false}
+use borrow.Author.Tests.{not-true}
 use Rattle.laws.proofs.Cases.{by-bool}
 use Rattle.laws.proofs.Every.{both}
 use Rattle.model.specs.declared.Call.{Call}
@@ -16,7 +16,7 @@ use Rattle.conservation.specs.Replies.{Said, numberFor, saying}
 use Rattle.planning.specs.declared.Name.{Name}
 use Rattle.planning.specs.Names.{sameName}
 use Rattle.planning.proofs.Naming.{same-self, same-sym}
-use Rattle.history.specs.Asked.{Request, ask, keep, back, Asked, among, keepRefused, backRefused, keptUnder, returned, unlessRefused, asking, history, telling, tellings, calls, leaves}
+use Rattle.history.specs.Asked.{Request, ask, keep, back, Asked, among, keepRefused, backRefused, keptUnder, returned, unlessRefused, asking, history, tellings, calls, leaves}
 
 -- A list of calls is kept under a name.
 pub record Held (a : Asked) (n : Name) (l : List Call) : Type 0 where
@@ -136,10 +136,10 @@ pub numbers-repeat : (d : Description) (a : Asked) (n : Name) (x y : Title) → 
     → tallyRefusal d (tallied d start (a .current)) (Grant x) ≡ none → tallyRefusal d (tallied d start (a .current)) (Grant y) ≡ none
     → tellings d a (keep n ∷ ask (Grant x) ∷ back n ∷ ask (Grant y) ∷ [])
     ≡ (saying none 0
-      ∷ saying none (suc (tallied d start (a .current) .last))
-      ∷ saying none 0
-      ∷ saying none (suc (tallied d start (a .current) .last))
-      ∷ [])
+    ∷ saying none (suc (tallied d start (a .current) .last))
+    ∷ saying none 0
+    ∷ saying none (suc (tallied d start (a .current) .last))
+    ∷ [])
 unfolding tellings
 numbers-repeat d a n x y e p q =
     let first = asking a (keep n) in
@@ -151,5 +151,5 @@ numbers-repeat d a n x y e p q =
     ∷ (ap (λ (l : List Call). saidAfter d l (Grant x)) same ∙ ap (λ (r : Refusal). saying r (suc (tallied d start (a .current) .last))) p) i
     ∷ saying (refuse 23 (not (h .used i)) none) 0
     ∷ (ap (λ (l : List Call). saidAfter d l (Grant y)) (goes-back second n (a .current) h)
-      ∙ ap (λ (r : Refusal). saying r (suc (tallied d start (a .current) .last))) q) i
+    ∙ ap (λ (r : Refusal). saying r (suc (tallied d start (a .current) .last))) q) i
     ∷ []

@@ -1,6 +1,5 @@
 -- What the program holds and tells after a list of requests, and what it is to hold (document 02 [3]). Assumes nothing.
 use Prim.Native.Nat.{ℕ, _<_}
-use mathlib.Core.Path.{_≡_}
 use mathlib.Core.List.{List, [], _∷_}
 use lib.ListN.{length}
 use Rattle.laws.specs.Table.{table}

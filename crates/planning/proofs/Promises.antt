@@ -1,13 +1,12 @@
 -- What opening, keeping and going back promise of every state. Assumes nothing.
-use Prim.Native.Nat.{ℕ, suc, _+_, _≤_, _<_}
+use Prim.Native.Nat.{ℕ, _+_, _<_}
 use mathlib.Core.Path.{_≡_, refl, sym, ap, subst⁻¹, _∙_}
 use mathlib.Core.Logic.{_↔_}
-use mathlib.Core.Bool.{Bool, true, false, not}
+use mathlib.Core.Bool.{true, not}
 use mathlib.Core.List.{List}
-use lib.ListN.{length, getD, set}
+use lib.ListN.{length, set}
 use lib.Seq.{getD-set-same, getD-set-other}
 use native.Mathlib.Omega.{arith}
-use native.Mathlib.Numerals.{add-one}
 use Rattle.laws.specs.Sum.{every}
 use Rattle.laws.proofs.Cases.{by-bool, by-eq, by-lt}
 use Rattle.laws.proofs.Every.{every-each, each-every}
@@ -26,7 +25,7 @@ use Rattle.planning.specs.declared.Reply.{Reply}
 use Rattle.planning.specs.Names.{placeLimit, sameName, nameAt, placeOf, distinct}
 use Rattle.planning.specs.State.{balanceAt, keptSound, soundState}
 use Rattle.planning.specs.Calls.{placeIn, keepRefusal, backRefusal, keeping, goingBack, replied, keepReply, backReply, openedState}
-use Rattle.planning.proofs.Replying.{Standing, standing, stands, keep-faulty, keep-again, keep-fifth, keep-new, back-faulty, back-none, back-to, place-within}
+use Rattle.planning.proofs.Replying.{standing, stands, keep-faulty, keep-again, keep-fifth, keep-new, back-faulty, back-none, back-to, place-within}
 
 -- Nothing kept is sound, and no name is kept twice.
 none-sound : (kept : List Balance) → keptSound kept 0 ≡ true

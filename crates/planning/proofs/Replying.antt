@@ -1,10 +1,9 @@
 -- A sound state by its parts, and the replies of keeping and going back by what the test and the search gave. Assumes nothing.
 use Prim.Native.Nat.{ℕ, _+_, _≤_, _<_}
-use mathlib.Core.Path.{_≡_, refl, sym}
+use mathlib.Core.Path.{_≡_}
 use mathlib.Core.Bool.{Bool, true, false, not, _&&_}
 use lib.Dec.{leb}
 use lib.ListN.{set}
-use native.Mathlib.Omega.{arith}
 use borrow.Author.Tests.{le-leb, lt-leb, leb-true}
 use Rattle.laws.proofs.Every.{both}
 use Rattle.laws.proofs.Chain.{t-and}

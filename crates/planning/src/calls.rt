@@ -1,7 +1,6 @@
 // Keeping the current balance under a name, and going back to what is kept under one.
 ghost use mathlib.Core.Path.{_≡_};
 ghost use Rattle.model.specs.Answers.{number};
-ghost use Rattle.planning.specs.State as states;
 ghost use Rattle.planning.specs.Calls as replies;
 use crate::Name;
 use crate::Reply;

@@ -8,10 +8,9 @@ ghost use mathlib.Core.Path.{_≡_};
 ghost use Rattle.planning.specs.State as states;
 pub use calls::back;
 pub use calls::keep;
+use model::Balance;
 pub use opening::open_book;
 pub use test::sound;
-
-use model::Balance;
 
 // A name of eight bytes. Any eight bytes are a name.
 pub struct Name {

@@ -4,7 +4,6 @@ use Prim.Native.Nat.{ℕ, _+_, _-_, _≤_}
 use mathlib.Core.Path.{_≡_, ap, _∙_}
 use native.Mathlib.Omega.{arith}
 use Rattle.register.specs.declared.Reply.{Reply}
-use Rattle.planning.specs.declared.State.{State}
 use Rattle.planning.specs.Calls.{withCurrent}
 use Rattle.planning_times.specs.Timed.{accepted, keepTurn, askTurn, states, counted}
 use Rattle.planning_times.proofs.Turning.{accepted-within, counted-start, counted-more, counted-all}
@@ -46,12 +45,12 @@ loop-less c = omega (arith, c .before .before .before .before .loop-test .taken)
 
 loop-again : tie.Need-loop-again Inv-loop μ-loop
 loop-again c = let turn = c .before .before .before .before .before .loop in (
-      omega (arith, c .before .before .before .before .loop-test .taken),
-      omega (arith, turn .inv .1),
-      counted-more askTurn _ (turn .i) (turn .s) (turn .count) _ _ _ (c .before .before .before .before .loop-test .taken)
-          (ap (λ (r : Reply). withCurrent (turn .s) (r .balance)) (c .before .before .ask .ensures))
-          (ap (λ (n : ℕ). 1 - n) (c .accepted .ensures) ∙ ap (λ (r : Reply). 1 - accepted (r .answer)) (c .before .before .ask .ensures)) (turn .inv .2),
-    )
+  omega (arith, c .before .before .before .before .loop-test .taken),
+  omega (arith, turn .inv .1),
+  counted-more askTurn _ (turn .i) (turn .s) (turn .count) _ _ _ (c .before .before .before .before .loop-test .taken)
+      (ap (λ (r : Reply). withCurrent (turn .s) (r .balance)) (c .before .before .ask .ensures))
+      (ap (λ (n : ℕ). 1 - n) (c .accepted .ensures) ∙ ap (λ (r : Reply). 1 - accepted (r .answer)) (c .before .before .ask .ensures)) (turn .inv .2),
+)
 
 returns : tie.Need-returns Inv-loop μ-loop
 returns c = let turn = c .before .loop in

@@ -3,9 +3,7 @@
 use Prim.Native.Nat.{_+_, _-_, _≤_}
 use mathlib.Core.Path.{_≡_, ap, _∙_}
 use native.Mathlib.Omega.{arith}
-use Rattle.planning.specs.declared.Name.{Name}
 use Rattle.planning.specs.declared.Reply.{Reply}
-use Rattle.planning.specs.declared.State.{State}
 use Rattle.planning.specs.Calls.{backReply}
 use Rattle.planning_times.specs.Timed.{nameInTurn, accepted, keepTurn, backTurn, states, counted}
 use Rattle.planning_times.proofs.Turning.{accepted-within, counted-start, counted-more, counted-all}

@@ -1,10 +1,9 @@
 -- `planning_times::kept` meets its contract. The loop's invariant: the calls that are left lead from this state to the end. Assumes nothing.
 use Prim.Native.Nat.{_+_, _-_, _≤_}
-use mathlib.Core.Path.{_≡_, refl, sym, ap, _∙_}
+use mathlib.Core.Path.{_≡_, sym, ap, _∙_}
 use native.Mathlib.Omega.{arith}
 use Rattle.planning.specs.declared.Name.{Name}
 use Rattle.planning.specs.declared.Reply.{Reply}
-use Rattle.planning.specs.declared.State.{State}
 use Rattle.planning.specs.Calls.{keepReply}
 use Rattle.planning_times.specs.Timed.{keepTurn, states}
 use Rattle.planning_times.proofs.Turning.{states-start, states-on, states-end}

@@ -50,10 +50,10 @@ loop-less c = omega arith
 
 loop-again : tie.Need-loop-again Inv-loop μ-loop
 loop-again c = let names = c .before .before .before .before .before .before .args .t1 in (
-      omega arith,
-      below-more _ _ (c .before .before .before .before .before .loop .inv .1)
-          (none-before names _ (nameAt names _) (sym (c .before .before .place-of .ensures) ∙ c .enum-told2 .given .1)),
-    )
+  omega arith,
+  below-more _ _ (c .before .before .before .before .before .loop .inv .1)
+      (none-before names _ (nameAt names _) (sym (c .before .before .place-of .ensures) ∙ c .enum-told2 .given .1)),
+)
 
 returns-2 : tie.Need-returns-2 Inv-loop μ-loop
 unfolding distinct

@@ -1,6 +1,5 @@
 -- `planning::sound` meets its contract. Assumes nothing.
 use mathlib.Core.Path.{sym, _∙_}
-use native.Mathlib.Omega.{arith}
 use borrow.Author.Tests.{not-true, not-false, le-leb, lt-leb}
 use Rattle.laws.proofs.Chain.{and-no, and-on}
 use Rattle.planning.specs.State.{soundState}
