@@ -1,4 +1,4 @@
-// A whole state on standard output.
+// A state on standard output: of each of its balances the counts, the entries that GU and GA raise, and which titles are in force.
 use crate::name::number_of;
 use crate::print;
 use model::Aquifer;

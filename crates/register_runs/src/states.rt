@@ -1,5 +1,5 @@
 // The lines of the file `states`. A line has what is printed and then, each after a semicolon, the changes that are made in the state of
-// the base and the calls that are made on it; in the end the whole state is printed.
+// the base and the calls that are made on it; in the end the state is printed.
 use crate::change;
 use crate::change::Change;
 use crate::changed::changed;
