@@ -1,4 +1,5 @@
 // The program `balance`: a book on standard input, what document 01 prints for it on standard output.
+#![tactic(auto)]
 use libc::{STDIN_FILENO, STDOUT_FILENO};
 
 fn main() {

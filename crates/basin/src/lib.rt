@@ -1,4 +1,6 @@
 // The balance: the test for 0 and the figures.
+#![tactic(auto)]
+
 mod cover;
 mod entries;
 pub mod places;
@@ -10,7 +12,7 @@ use model::{Answer, Balance};
 pub use test::sound;
 
 // The reply of reading the figures: the answer, and the figures of each unit and aquifer under its number less one.
-#[derive(Drop)]
+#[derive(Clone, Copy)]
 pub struct Figures {
     pub answer: Answer,
     pub units: [UnitFigures; Balance::UNITS],

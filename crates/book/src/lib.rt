@@ -1,4 +1,5 @@
 // The book: reading a description record by record, and opening it as a balance.
+#![tactic(auto)]
 mod opening;
 mod step;
 
@@ -6,7 +7,7 @@ pub use opening::read_book;
 
 // What a record does to a description: it ends it, is refused, opens a unit, belongs to the open unit, or adds an aquifer. `to` is the
 // offset of the next record.
-#[derive(Drop)]
+#[derive(Clone, Copy)]
 pub enum Next {
     Ends,
     Refused { number: u8, place: usize },
@@ -17,7 +18,7 @@ pub enum Next {
 
 // The reply of opening a book: accepted, with the offset where the description ends and the balance, or refused under a number, with its
 // place and the fresh balance.
-#[derive(Drop)]
+#[derive(Clone, Copy)]
 pub struct Opened {
     pub answer: model::Answer,
     pub place: usize,

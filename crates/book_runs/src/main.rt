@@ -1,4 +1,5 @@
 // Runs each book that an argument names through the function of `balance`, and prints its name and what is printed for it.
+#![tactic(auto)]
 use libc::STDOUT_FILENO;
 
 // One book: a line with its name, then what is printed for it.

@@ -1,4 +1,5 @@
 // The calls of a book, run over a balance one after the other.
+#![tactic(auto)]
 pub mod tested;
 
 ghost use Rattle.std.specs.Prelude.{◌≡◌};
@@ -9,7 +10,7 @@ use record::Ending;
 use tested::run_tested;
 
 // What running the calls of a book gives: how they end, and the balance after those that stand before the end.
-#[derive(Drop)]
+#[derive(Clone, Copy)]
 pub struct Ran {
     pub ending: Ending,
     pub balance: Balance,

@@ -1,4 +1,5 @@
 // What a dashboard links: the book as bytes in, the printed text or the table of figures out. The names are those of include/hasheqro.h.
+#![tactic(auto)]
 ghost use Rattle.std.specs.Prelude.{◌≡◌, ◌*◌};
 ghost use Rattle.text.specs.Text.{Written};
 ghost use Rattle.listing.specs.Listing.{printed};
@@ -14,7 +15,7 @@ use report::ROOM;
 // The table of a book after its calls: whether its description was accepted, the number and place of a refusal or of a call record that
 // failed (0 if none), and the figures, with 0 in the unused places.
 #[repr(C)]
-#[derive(Drop)]
+#[derive(Clone, Copy)]
 pub struct Table {
     pub accepted: bool,
     pub number: u8,

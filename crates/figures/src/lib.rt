@@ -1,11 +1,13 @@
 // The figures of all units and aquifers of a balance.
+#![tactic(auto)]
+
 mod figures;
 
 pub use figures::{aquifer_figures, of_aquifer, of_units, unit_figures};
 
 // The four figures of a unit.
 #[repr(C)]
-#[derive(Drop)]
+#[derive(Clone, Copy)]
 pub struct UnitFigures {
     pub flow: i64,
     pub committed: u64,
@@ -15,7 +17,7 @@ pub struct UnitFigures {
 
 // The two figures of an aquifer.
 #[repr(C)]
-#[derive(Drop)]
+#[derive(Clone, Copy)]
 pub struct AquiferFigures {
     pub recharge: i64,
     pub availability: i64,

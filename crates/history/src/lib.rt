@@ -1,1 +1,2 @@
 // Keepings and returns reduce to lists of calls: theorems of the definitions. There is no code here.
+#![tactic(auto)]

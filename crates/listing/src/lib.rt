@@ -1,4 +1,5 @@
 // What the program prints for a book, put into a lent buffer.
+#![tactic(auto)]
 ghost use Rattle.std.specs.Prelude.{◌≡◌, ◌+◌, ◌≤◌, length, get_or, true};
 ghost use Rattle.model.specs.View.{view_of};
 ghost use Rattle.model.specs.Limits.{unit_limit, aquifer_limit};
@@ -132,7 +133,7 @@ fn call_line(
 }
 
 // The position past the call lines, how the calls end, and the balance after them.
-#[derive(Drop)]
+#[derive(Clone, Copy)]
 struct Lines {
     next: usize,
     ending: Ending,

@@ -1,10 +1,12 @@
 // The balance of a basin book: units, aquifers and titles, by value.
+#![tactic(auto)]
+
 ghost use Rattle.std.specs.Prelude.{◌≡◌};
 ghost use Rattle.model.specs.Fresh as fresh;
 
 // A basin unit: the number of its downstream unit (0 for an outlet), its entries with its titles in, and its natural runoff.
 // All volumes are thousand m³; a rise of storage is positive.
-#[derive(Drop)]
+#[derive(Clone, Copy)]
 pub struct Unit {
     pub downstream: u8,
     pub extraction: u32,
@@ -18,7 +20,7 @@ pub struct Unit {
 }
 
 // An aquifer: storage change, natural and pumped discharge, committed natural discharge, and titled extraction in all.
-#[derive(Drop)]
+#[derive(Clone, Copy)]
 pub struct Aquifer {
     pub storage: i64,
     pub natural: u32,
@@ -29,7 +31,7 @@ pub struct Aquifer {
 
 // A title is one of five kinds: a withdrawal from a unit or an aquifer, a transfer from a unit or an aquifer, and a withdrawal from an
 // aquifer whose return goes to a unit (document 02 [2]).
-#[derive(Drop)]
+#[derive(Clone, Copy)]
 pub enum Title {
     UnitWithdrawal {
         unit: u8,
@@ -59,14 +61,14 @@ pub enum Title {
 }
 
 // A place of the register: a title, and whether it is in force.
-#[derive(Drop)]
+#[derive(Clone, Copy)]
 pub struct Place {
     pub title: Title,
     pub in_force: bool,
 }
 
 // Units and aquifers are numbered from 1 in file order: number n stands at index n - 1. So do titles, of which `given` numbers were given.
-#[derive(Drop)]
+#[derive(Clone, Copy)]
 pub struct Balance {
     pub units: [Unit; Balance::UNITS],
     pub unit_count: usize,
@@ -77,21 +79,21 @@ pub struct Balance {
 }
 
 // The answer of a call: accepted, or refused under one of document 01's numbers.
-#[derive(Drop)]
+#[derive(Clone, Copy)]
 pub enum Answer {
     Accepted,
     Refused(u8),
 }
 
 // What a call asks: a title to be granted (GU, GA, TU, TA, GW), or the number of a title to be cancelled (CA).
-#[derive(Drop)]
+#[derive(Clone, Copy)]
 pub enum Call {
     Grant { title: Title },
     Cancel { number: u16 },
 }
 
 // The first of some places at which a test holds, if there is one.
-#[derive(Drop)]
+#[derive(Clone, Copy)]
 pub enum Found {
     At(usize),
     Nothing,

@@ -1,4 +1,5 @@
 // Planning states: the current balance, and up to four balances kept under names, to come back to (document 02 [3]).
+#![tactic(auto)]
 mod calls;
 mod names;
 mod opening;
@@ -13,14 +14,14 @@ pub use opening::open_book;
 pub use test::sound;
 
 // A name of eight bytes. Any eight bytes are a name.
-#[derive(Drop)]
+#[derive(Clone, Copy)]
 pub struct Name {
     pub bytes: [u8; Name::BYTES],
 }
 
 // The current balance, and the balances that are kept: how many, and each one's name and balance, in the order in which the names were
 // first kept.
-#[derive(Drop)]
+#[derive(Clone, Copy)]
 pub struct State {
     pub balance: Balance,
     pub names: [Name; State::PLACES],
@@ -29,7 +30,7 @@ pub struct State {
 }
 
 // The reply of keeping and of going back: the answer, 0 as the number, since no title is concerned, and the state to go on with.
-#[derive(Drop)]
+#[derive(Clone, Copy)]
 pub struct Reply {
     pub answer: model::Answer,
     pub number: u16,
@@ -38,7 +39,7 @@ pub struct Reply {
 
 // The reply of opening a book as a state: accepted, with the offset where the description ends and the state in which nothing is kept, or
 // refused under a number, with its place and the fresh state.
-#[derive(Drop)]
+#[derive(Clone, Copy)]
 pub struct Opened {
     pub answer: model::Answer,
     pub place: usize,

@@ -1,4 +1,5 @@
 // For timing: keeping, going back and an ordinary call, many times over, on the state of a book in which four balances are kept.
+#![tactic(auto)]
 ghost use Rattle.std.specs.Prelude.{◌≡◌};
 ghost use Rattle.planning_times.specs.Timed as timed;
 

@@ -1,4 +1,5 @@
 // The records of a book: their bytes, marks and fields, the faults of a description's records, and the calls.
+#![tactic(auto)]
 mod bytes;
 mod calls;
 mod fault;
@@ -11,7 +12,7 @@ pub use fields::{aquifer_record, mark_of, unit_of, unit_record, with_soil, with_
 
 // A unit as its book describes it: the offset of its UN mark, the fields of its UN, and of the records after it how many soil records
 // there are, their hectares and weighted hectares, how many years there are and their sum (rain years in 6,000,000,000ths).
-#[derive(Drop)]
+#[derive(Clone, Copy)]
 pub struct UnitRecord {
     pub at: usize,
     pub downstream: u8,
@@ -30,7 +31,7 @@ pub struct UnitRecord {
 }
 
 // What two bytes say as a mark.
-#[derive(Drop)]
+#[derive(Clone, Copy)]
 pub enum Mark {
     Un,
     Su,
@@ -43,7 +44,7 @@ pub enum Mark {
 }
 
 // Which call two bytes are the mark of.
-#[derive(Drop)]
+#[derive(Clone, Copy)]
 pub enum CallMark {
     Gu,
     Ga,
@@ -56,7 +57,7 @@ pub enum CallMark {
 
 // What stands at an offset after the description: nothing more, a record that fails with 1 or 2, or a call and the offset of the next
 // record.
-#[derive(Drop)]
+#[derive(Clone, Copy)]
 pub enum CallAt {
     End,
     Fails { number: u8 },
@@ -64,7 +65,7 @@ pub enum CallAt {
 }
 
 // How the calls of a book end: with the book, or with a record that fails with 1 or 2 at its place.
-#[derive(Drop)]
+#[derive(Clone, Copy)]
 pub enum Ending {
     Finished,
     Failed { number: u8, place: usize },

@@ -1,5 +1,6 @@
 // The register: titles granted, transferred and cancelled, each call from a balance to a reply. The steps of a call, for callers that run
 // many over one tested balance, are in `decision` and `outcome`.
+#![tactic(auto)]
 mod asked;
 pub mod decision;
 pub mod outcome;
@@ -7,7 +8,7 @@ pub mod outcome;
 pub use asked::{ask, bring, cancel, pump, pump_returning, transfer, withdraw};
 
 // The reply of a call: the answer, the title's number (0 if refused) and the balance.
-#[derive(Drop)]
+#[derive(Clone, Copy)]
 pub struct Reply {
     pub answer: model::Answer,
     pub number: u16,

@@ -1,7 +1,7 @@
 // A change of a balance, as the file has it: two letters that say what is changed, and numbers.
 
 // The letters, and the numbers so far: the last is `value`, those before it are, backwards, `third`, `second` and `first`.
-#[derive(Drop)]
+#[derive(Clone, Copy)]
 pub struct Change {
     pub kind: u8,
     pub field: u8,

@@ -1,6 +1,7 @@
 // Makes the six calls on balances that are broken in each way that gives 0, and on sound ones at the limits; then keeps and goes back on
 // states. The base of them all is the balance of the book `broken-base` after its calls; each line of the file `balances` says what is
 // printed and what is changed in it, and each line of the file `states` also which calls are made.
+#![tactic(auto)]
 ghost use Rattle.io.specs.Counts.{IsPrefixLen};
 
 mod change;

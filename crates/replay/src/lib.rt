@@ -1,4 +1,5 @@
 // A journal replayed: its opening, the replies to its records, put page by page into a lent buffer, and the table in the end.
+#![tactic(auto)]
 mod opening;
 mod page;
 
@@ -14,7 +15,7 @@ use report::ROOM;
 // What replaying some records of a journal gives: the state after them, the offset of the next one, how many were replayed, how many
 // bytes of the buffer their replies take, and whether there may be more. The reply to a record that fails with 1 or 2 is its line, and
 // nothing follows it.
-#[derive(Drop)]
+#[derive(Clone, Copy)]
 pub struct Replayed {
     pub state: planning::State,
     pub next: usize,

@@ -1,4 +1,6 @@
 // Natural runoff of a unit (000, appendix A): K by cover and soil, what a rain year and a gauged year give, and their rounded mean.
+#![tactic(auto)]
+
 ghost use Rattle.std.specs.Prelude.{◌≡◌, ◌-◌, ◌≤◌, ◌<◌};
 ghost use Rattle.runoff.specs.Soil.{Known, Tabled};
 ghost use Rattle.runoff.specs.Year.{in_tenths, RainRange, rain_year, StorageRange, gauged_year};
@@ -50,7 +52,7 @@ fn over(a: u64, b: u64) -> u64
 }
 
 // In what a record gives a year's rain: PR in millimetres, PD in tenths of a millimetre.
-#[derive(Drop)]
+#[derive(Clone, Copy)]
 pub enum Measure {
     Millimetres,
     Tenths,

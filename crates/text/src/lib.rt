@@ -1,5 +1,6 @@
 // The pieces of a printed line: bytes, words and decimal numbers put into a lent buffer. Each goes in at a position, and the answer is
 // the position past it.
+#![tactic(auto)]
 ghost use Rattle.std.specs.Prelude.{◌+◌, ◌≤◌, ◌≡◌, nat_abs, [], ◌∷◌, ◌++◌, length};
 ghost use Rattle.text.specs.Text.{ascii, Written};
 ghost use Rattle.text.specs.Text.{decimal, signed};

@@ -1,4 +1,6 @@
 // What titles add to the entries of units and aquifers.
+#![tactic(auto)]
+
 ghost use Rattle.std.specs.Prelude.{◌≡◌};
 ghost use Rattle.titles.specs.Adds as adds;
 ghost use Rattle.titles.specs.Posting.{post};
@@ -7,7 +9,7 @@ ghost use Rattle.titles.specs.Titled as whole;
 use model::{Balance, Title};
 
 // The entries that titles raise.
-#[derive(Drop)]
+#[derive(Clone, Copy)]
 pub enum Slot {
     Extraction,
     Exports,
@@ -17,7 +19,7 @@ pub enum Slot {
 }
 
 // What titles add together to each entry, for each unit or aquifer: number n stands at n - 1.
-#[derive(Drop)]
+#[derive(Clone, Copy)]
 pub struct Sums {
     pub extraction: [u64; Balance::UNITS],
     pub exports: [u64; Balance::UNITS],

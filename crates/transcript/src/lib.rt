@@ -1,1 +1,2 @@
 // The whole text of a journal: definitions and theorems alone.
+#![tactic(auto)]

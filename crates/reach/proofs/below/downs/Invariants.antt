@@ -1,0 +1,15 @@
+-- `reach::downs` meets its contract. The loop's invariant: the first i places hold the downstream numbers of the first i units. Assumes nothing.
+use Prim.Native.Nat.{◌≤◌, ◌-◌}
+use mathlib.Core.Path.{◌≡◌}
+use native.Mathlib.Omega.{arith}
+use native.Mathlib.Numerals.{add-one}
+use Rattle.laws.proofs.Arrays.{Filled, filled_start, filled_more}
+use Rattle.river.specs.Flow.{downstream}
+use Rattle.river.specs.Units.{units_view}
+use Rattle.reach.proofs.below.downs.Given as goal
+
+abbrev pub invariant-loop-i : goal.invariant-loop-i
+invariant-loop-i l = (l.i ≤ l.n) × Filled 64 0 (downstream (units_view l.units l.n)) l.i l.down
+
+abbrev pub decreases-loop-i : goal.decreases-loop-i
+decreases-loop-i l = l.n - l.i
