@@ -2,9 +2,9 @@
 use Prim.Native.Nat.{ℕ, ◌≤◌, ◌<◌}
 use mathlib.Core.Path.{◌≡◌, refl, sym, ◌∙◌}
 use mathlib.Core.Logic.{◌⊎◌, inl, inr}
-use mathlib.Core.Bool.{Bool, true, false, not, ◌&&◌, ◌||◌}
+use mathlib.Core.Bool.{Bool, true, false, ◌&&◌, ◌||◌}
 use lib.Dec.{leb, eqb}
-use borrow.Author.Tests.{le-leb, lt-leb, eq-eqb, ne_eqb, not-true, not-false}
+use borrow.Author.Tests.{le-leb, lt-leb, eq-eqb, ne_eqb}
 
 -- A test that fails ends the chain, and one that holds leaves the rest of it.
 stop : (t x : Bool) → t ≡ false → false ≡ (t && x)
@@ -21,17 +21,17 @@ pub go_leb : (a b : ℕ) (x r : Bool) → a ≤ b → r ≡ x → r ≡ (leb a b
 go_leb a b x r h e = go (leb a b) x r (le-leb a b h) e
 
 -- What a call's test says of the test that it made.
-pub call_holds : {s t : Bool} → s ≡ t → not s ≡ false → t ≡ true
-call_holds {s = s} e h = sym e ∙ not-false s h
+pub call_holds : {s t : Bool} → s ≡ t → s ≡ true → t ≡ true
+call_holds e h = sym e ∙ h
 
-pub call_fails : {s t : Bool} → s ≡ t → not s ≡ true → t ≡ false
-call_fails {s = s} e h = sym e ∙ not-true s h
+pub call_fails : {s t : Bool} → s ≡ t → s ≡ false → t ≡ false
+call_fails e h = sym e ∙ h
 
 -- A test that a call made ends the chain, or leaves the rest of it.
-pub stop_call : (s t x : Bool) → s ≡ t → not s ≡ true → false ≡ (t && x)
+pub stop_call : (s t x : Bool) → s ≡ t → s ≡ false → false ≡ (t && x)
 stop_call s t x e h = stop t x (call_fails e h)
 
-pub go_call : (s t x r : Bool) → s ≡ t → not s ≡ false → r ≡ x → r ≡ (t && x)
+pub go_call : (s t x r : Bool) → s ≡ t → s ≡ true → r ≡ x → r ≡ (t && x)
 go_call s t x r e h g = go t x r (call_holds e h) g
 
 -- Both tests of a conjunction hold.

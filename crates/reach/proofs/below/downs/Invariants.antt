@@ -1,9 +1,6 @@
--- `reach::downs` meets its contract. The loop's invariant: the first i places hold the downstream numbers of the first i units. Assumes nothing.
-use Prim.Native.Nat.{◌≤◌, ◌-◌}
-use mathlib.Core.Path.{◌≡◌}
-use native.Mathlib.Omega.{arith}
-use native.Mathlib.Numerals.{add-one}
-use Rattle.laws.proofs.Arrays.{Filled, filled_start, filled_more}
+-- The loop's invariant: the first i places hold the downstream numbers of the first i units. Assumes nothing.
+use Rattle.std.proofs.Common.{◌-◌, ◌≤◌}
+use Rattle.laws.proofs.Arrays.{Filled}
 use Rattle.river.specs.Flow.{downstream}
 use Rattle.river.specs.Units.{units_view}
 use Rattle.reach.proofs.below.downs.Given as goal

@@ -1,14 +1,8 @@
--- `reach::outlets` meets its contract. The loop's invariant: the places from i up to the number of units hold the units' outlets. Assumes nothing.
-use Prim.Native.Nat.{suc, pred, ◌≤◌, ◌<◌, ◌-◌}
-use mathlib.Core.Path.{◌≡◌, sym, ◌∙◌}
-use native.Mathlib.Omega.{arith}
-use native.Mathlib.Numerals.{sub-one}
-use Rattle.laws.proofs.Arrays.{FilledDown, filled_down_start, filled_down_more}
-use Rattle.river.specs.Flow.{downstream}
+-- The loop's invariant: the places from i up to the number of units hold the units' outlets. Assumes nothing.
+use Rattle.std.proofs.Common.{◌≤◌}
+use Rattle.laws.proofs.Arrays.{FilledDown}
 use Rattle.river.specs.Units.{units_view}
-use Rattle.river.proofs.Reserves.{Below, below_of}
 use Rattle.reach.specs.Reach.{outlet}
-use Rattle.reach.proofs.Ways.{outlet_self, outlet_next}
 use Rattle.reach.proofs.outlet.outlets.Given as goal
 
 abbrev pub invariant-loop-i : goal.invariant-loop-i
