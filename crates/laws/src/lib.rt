@@ -1,5 +1,6 @@
 // The few signed steps of the balance. Everything else is worked in natural numbers.
 #![tactic(auto)]
+
 ghost use Rattle.std.specs.Prelude.{◌≡◌, ◌<◌, ◌^◌, pos, ◌+ℤ◌, ◌-ℤ◌};
 ghost use Rattle.laws.specs.Signed as parts;
 

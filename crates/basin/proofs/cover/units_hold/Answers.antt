@@ -1,12 +1,8 @@
 -- `basin::units_hold` meets its contract. The loop's invariant: each of the first i units holds. Assumes nothing.
-use Prim.Native.Nat.{ℕ, ◌≤◌, ◌<◌, ◌-◌}
-use mathlib.Core.Path.{◌≡◌, sym}
-use mathlib.Core.Bool.{true}
+use mathlib.Core.Path.{sym}
 use native.Mathlib.Omega.{arith}
 use borrow.Author.Count.{below_none, below_more}
-use borrow.Author.Rules.{rules}
 use Rattle.laws.proofs.Every.{each_every, every_fails}
-use Rattle.basin.specs.Sound.{unit_holds}
 use Rattle.basin.proofs.Chains.{call_holds, call_fails, both_hold, first_fails, second_fails}
 use Rattle.basin.proofs.cover.units_hold.Goals as goal
 

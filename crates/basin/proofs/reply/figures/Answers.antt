@@ -1,7 +1,6 @@
 -- `basin::figures` meets its contract. Assumes nothing.
 use mathlib.Core.Path.{◌≡◌, ◌∙◌}
 use mathlib.Core.Bool.{true}
-use borrow.Author.Rules.{rules}
 use Rattle.model.specs.View.{view_of}
 use Rattle.river.proofs.Units.{ready_alone}
 use Rattle.figures.proofs.Units.{figures_alone}

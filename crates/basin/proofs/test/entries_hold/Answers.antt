@@ -1,10 +1,8 @@
 -- `basin::entries_hold` meets its contract. The loop's invariant: each of the first k places is sound, and they are added up. Assumes nothing.
-use Prim.Native.Nat.{ℕ, ◌≤◌, ◌<◌, ◌-◌}
 use mathlib.Core.Path.{◌≡◌, refl, sym, ◌∙◌}
-use mathlib.Core.Bool.{Bool, true, ◌&&◌}
+use mathlib.Core.Bool.{Bool, ◌&&◌}
 use native.Mathlib.Omega.{arith}
 use borrow.Author.Count.{below_none, below_more}
-use borrow.Author.Rules.{rules}
 use lib.ListN.{get_or}
 use Rattle.laws.proofs.Every.{each_every, every_fails}
 use Rattle.model.specs.Fresh.{empty_place}

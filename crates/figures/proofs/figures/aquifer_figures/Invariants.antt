@@ -1,10 +1,6 @@
 -- `figures::aquifer_figures` meets its contract. Assumes nothing.
 use Prim.Native.Nat.{◌≤◌, ◌-◌}
-use mathlib.Core.Path.{◌≡◌}
-use native.Mathlib.Omega.{arith}
-use native.Mathlib.Numerals.{add-one}
-use borrow.Author.Count.{falls}
-use Rattle.laws.proofs.Arrays.{Filled, filled_start, filled_put, filled_table}
+use Rattle.laws.proofs.Arrays.{Filled}
 use Rattle.figures.specs.Figures.{aquifers_view, aquifer_figures, no_aquifer_figures}
 use Rattle.figures.proofs.figures.aquifer_figures.Given as goal
 

@@ -5,7 +5,6 @@ use Rattle.laws.specs.Signed.{above, below}
 use Rattle.laws.proofs.Signs.{whole_ok}
 use Rattle.laws.proofs.Parts.{parts_fit, above_read, below_read}
 use Rattle.figures.proofs.Aquifers.{recharge_is, available_is}
-use borrow.Author.Rules.{rules}
 use Rattle.figures.proofs.figures.of_aquifer.Goals as goal
 use Rattle.figures.proofs.figures.of_aquifer.Goals.{After-below-fall}
 

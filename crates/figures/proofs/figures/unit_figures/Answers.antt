@@ -1,13 +1,11 @@
 -- `figures::unit_figures` meets its contract. The loop's invariant: the units from i on have their figures. Assumes nothing.
-use Prim.Native.Nat.{suc, ◌≤◌, ◌<◌, ◌-◌}
+use Prim.Native.Nat.{suc, ◌<◌, ◌-◌}
 use mathlib.Core.Path.{◌≡◌, sym, ap, ◌∙◌}
-use mathlib.Core.Logic.{⊎_elim}
 use mathlib.Core.Bool.{true, false}
 use lib.ListN.{get_or}
 use native.Mathlib.Omega.{arith}
-use borrow.Author.Rules.{rules}
 use borrow.Author.Count.{falls_down}
-use Rattle.laws.proofs.Arrays.{FilledDown, filled_down_start, filled_down_more, filled_table}
+use Rattle.laws.proofs.Arrays.{filled_down_start, filled_down_more, filled_table}
 use Rattle.model.specs.View.{View}
 use Rattle.river.specs.Units.{units_view}
 use Rattle.river.specs.Flow.{downstream}
@@ -81,15 +79,15 @@ volume_is c =
     let v = view (goal.at.Joined-d-gt0 at).At-loop-i in
     let j = at.loop-i.i - 1 in
     elim c.if-d-gt0.branch [
-    then-d-gt0 w ↦
-        let h = passed (goal.at.Joined-d-gt0 c).In-loop-i in
-        let b = below_of v at.requires.ready j h (omega (arith, w.if-d-gt0.true)) in
-        let s = share_of v at.requires.ready at.requires.flows j h b _ _
-            (ap (λ (x : UnitFigures). x.committed)
-            (at.loop-i.invariant.1.done (downstream v j - 1) (omega (arith, b.later, b.next)) (omega (arith, b.within, b.next))))
-            w.contribution-own.ensures in
-        w.volume-is ∙ w.from_below-volume.ensures ∙ s.gets
-    | else-d-gt0 w ↦ w.volume-is ∙ sym (committed_outlet v j (omega (arith, w.if-d-gt0.false)))
+      | then-d-gt0 w ↦
+          let h = passed (goal.at.Joined-d-gt0 c).In-loop-i in
+          let b = below_of v at.requires.ready j h (omega (arith, w.if-d-gt0.true)) in
+          let s = share_of v at.requires.ready at.requires.flows j h b _ _
+          (ap (λ (x : UnitFigures). x.committed)
+          (at.loop-i.invariant.1.done (downstream v j - 1) (omega (arith, b.later, b.next)) (omega (arith, b.within, b.next))))
+          w.contribution-own.ensures in
+          w.volume-is ∙ w.from_below-volume.ensures ∙ s.gets
+      | else-d-gt0 w ↦ w.volume-is ∙ sym (committed_outlet v j (omega (arith, w.if-d-gt0.false)))
     ]
 
 pub of_unit-x-requires : goal.of_unit-x-requires

@@ -1,19 +1,17 @@
 -- `river::flow_amounts` meets its contract. The loop's invariant: `gained` and `lost` have carried the parts of the first i units on, and
 -- `before` and `arrived` hold the running totals that these found and left. Assumes nothing.
-use Prim.Native.Nat.{ℕ, suc, pred, ◌≤◌, ◌<◌, ◌+◌, ◌-◌}
+use Prim.Native.Nat.{ℕ, suc, pred, ◌<◌, ◌+◌, ◌-◌}
 use mathlib.Core.Path.{◌≡◌, ◌∙◌}
-use mathlib.Core.Logic.{⊎_elim}
 use mathlib.Core.Bool.{true, false}
 use lib.ListN.{get_or, set}
 use native.Mathlib.Omega.{arith}
 use native.Mathlib.Numerals.{add-one, sub-one}
-use borrow.Author.Rules.{rules}
 use borrow.Author.Count.{falls}
 use borrow.Author.Tests.{eq-eqb, ne_eqb}
 use Rattle.laws.specs.Sum.{naturals}
 use Rattle.laws.specs.Gather.{arriving}
 use Rattle.laws.proofs.Gathering.{arriving_stays}
-use Rattle.laws.proofs.Arrays.{Filled, filled_start, filled_put, filled_keep, Arrived, arrived_start, arrived_out, arrived_on}
+use Rattle.laws.proofs.Arrays.{filled_start, filled_put, filled_keep, arrived_start, arrived_out, arrived_on}
 use Rattle.model.specs.View.{View}
 use Rattle.river.specs.Units.{units_view}
 use Rattle.river.specs.Flow.{downstream, gathered}
@@ -21,7 +19,7 @@ use Rattle.river.specs.Reserve.{contribution}
 use Rattle.river.specs.Passes.{running_before}
 use Rattle.river.proofs.Flows.{tree, gathered_is, gathered_small, small}
 use Rattle.river.proofs.Reserves.{Below, below_of, contribution_is, left_within, total_small}
-use Rattle.river.proofs.Carried.{Carried, Whole, carried_start, carried_whole, whole_out, whole_on, left_small, rest_none, carried_gathered}
+use Rattle.river.proofs.Carried.{Whole, carried_start, carried_whole, whole_out, whole_on, left_small, rest_none, carried_gathered}
 use Rattle.river.proofs.flow.flow_amounts.Goals as goal
 use Rattle.river.proofs.flow.flow_amounts.Goals.{then-d-gt0, else-d-gt0, After-contribution, After-gain, After-loss, At-loop-i, Then-d-gt0}
 
@@ -225,25 +223,25 @@ loop-i-preserved c =
     let more = more-is (goal.at.loop-i-preserved passed).After-gain in
     rw (add-one i)
     (elim c.if-d-gt0.branch [
-    then-d-gt0 w ↦
-        let b = below_of v at.requires.ready i c.loop-i-test.true (omega (arith, w.if-d-gt0.true)) in
-        let h : k < 64 = omega (arith, b.within, at.requires.ready.few) in
-        let q = place_of v i b in
-        let e : w.contribution.result ≡ contribution v i = omega (arith, w.contribution.ensures, more, less_is (goal.at.loop-i-preserved passed).After-loss, contribution_is v i) in (
-          t,
-          rw (w.gained-is, more) (whole_on 64 (downstream v) (gathered v false) i k _ q.next q.later h (rw more at g)),
-          rw (w.lost-is, less_is (goal.at.loop-i-preserved passed).After-loss) (whole_on 64 (downstream v) (gathered v true) i k _ q.next q.later h (rw (less_is (goal.at.loop-i-preserved passed).After-loss) at l)),
-          rw w.before-is (filled_put 64 0 (running_before v) i loop.before _ few (loop.invariant.4.each k h ∙ found-is v i b) loop.invariant.3),
-          rw (w.arrived-is, e) (arrived_on 64 (downstream v) (contribution v) i k loop.arrived q.next h loop.invariant.4),
-        )
-    | else-d-gt0 w ↦
-        let e : downstream v i ≡ 0 = omega (arith, w.if-d-gt0.false) in (
-          t,
-          rw w.gained-is (whole_out 64 (downstream v) (gathered v false) i _ e g),
-          rw w.lost-is (whole_out 64 (downstream v) (gathered v true) i _ e l),
-          rw w.before-is (filled_keep 64 0 (running_before v) i loop.before (outlet-is v i e) loop.invariant.3),
-          rw w.arrived-is (arrived_out 64 (downstream v) (contribution v) i loop.arrived e loop.invariant.4),
-        )
+      | then-d-gt0 w ↦
+          let b = below_of v at.requires.ready i c.loop-i-test.true (omega (arith, w.if-d-gt0.true)) in
+          let h : k < 64 = omega (arith, b.within, at.requires.ready.few) in
+          let q = place_of v i b in
+          let e : w.contribution.result ≡ contribution v i = omega (arith, w.contribution.ensures, more, less_is (goal.at.loop-i-preserved passed).After-loss, contribution_is v i) in (
+            t,
+            rw (w.gained-is, more) (whole_on 64 (downstream v) (gathered v false) i k _ q.next q.later h (rw more at g)),
+            rw (w.lost-is, less_is (goal.at.loop-i-preserved passed).After-loss) (whole_on 64 (downstream v) (gathered v true) i k _ q.next q.later h (rw (less_is (goal.at.loop-i-preserved passed).After-loss) at l)),
+            rw w.before-is (filled_put 64 0 (running_before v) i loop.before _ few (loop.invariant.4.each k h ∙ found-is v i b) loop.invariant.3),
+            rw (w.arrived-is, e) (arrived_on 64 (downstream v) (contribution v) i k loop.arrived q.next h loop.invariant.4),
+          )
+      | else-d-gt0 w ↦
+          let e : downstream v i ≡ 0 = omega (arith, w.if-d-gt0.false) in (
+            t,
+            rw w.gained-is (whole_out 64 (downstream v) (gathered v false) i _ e g),
+            rw w.lost-is (whole_out 64 (downstream v) (gathered v true) i _ e l),
+            rw w.before-is (filled_keep 64 0 (running_before v) i loop.before (outlet-is v i e) loop.invariant.3),
+            rw w.arrived-is (arrived_out 64 (downstream v) (contribution v) i loop.arrived e loop.invariant.4),
+          )
     ])
 
 pub returns : goal.returns

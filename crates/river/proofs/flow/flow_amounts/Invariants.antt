@@ -1,27 +1,13 @@
 -- `river::flow_amounts` meets its contract. The loop's invariant: `gained` and `lost` have carried the parts of the first i units on, and
 -- `before` and `arrived` hold the running totals that these found and left. Assumes nothing.
-use Prim.Native.Nat.{ℕ, suc, pred, ◌≤◌, ◌<◌, ◌+◌, ◌-◌}
-use mathlib.Core.Path.{◌≡◌, ◌∙◌}
-use mathlib.Core.Logic.{⊎_elim}
+use Prim.Native.Nat.{◌≤◌, ◌-◌}
 use mathlib.Core.Bool.{true, false}
-use lib.ListN.{get_or, set}
-use native.Mathlib.Omega.{arith}
-use native.Mathlib.Numerals.{add-one, sub-one}
-use borrow.Author.Rules.{rules}
-use borrow.Author.Count.{falls}
-use borrow.Author.Tests.{eq-eqb, ne_eqb}
-use Rattle.laws.specs.Sum.{naturals}
-use Rattle.laws.specs.Gather.{arriving}
-use Rattle.laws.proofs.Gathering.{arriving_stays}
-use Rattle.laws.proofs.Arrays.{Filled, filled_start, filled_put, filled_keep, Arrived, arrived_start, arrived_out, arrived_on}
-use Rattle.model.specs.View.{View}
+use Rattle.laws.proofs.Arrays.{Filled, Arrived}
 use Rattle.river.specs.Units.{units_view}
 use Rattle.river.specs.Flow.{downstream, gathered}
 use Rattle.river.specs.Reserve.{contribution}
 use Rattle.river.specs.Passes.{running_before}
-use Rattle.river.proofs.Flows.{tree, gathered_is, gathered_small, small}
-use Rattle.river.proofs.Reserves.{Below, below_of, contribution_is, left_within, total_small}
-use Rattle.river.proofs.Carried.{Carried, Whole, carried_start, carried_whole, whole_out, whole_on, left_small, rest_none, carried_gathered}
+use Rattle.river.proofs.Carried.{Carried}
 use Rattle.river.proofs.flow.flow_amounts.Given as goal
 
 abbrev pub invariant-loop-i : goal.invariant-loop-i

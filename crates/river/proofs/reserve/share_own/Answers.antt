@@ -1,7 +1,6 @@
 -- `river::share_own` meets its contract. Assumes nothing.
 use Prim.Native.Nat.{◌<◌}
 use native.Mathlib.Omega.{arith}
-use borrow.Author.Rules.{rules}
 use borrow.Author.Tests.{eq-eqb, ne_eqb}
 use Rattle.laws.proofs.Splitting.{floor_all, floor_le}
 use Rattle.river.proofs.reserve.share_own.Goals as goal

@@ -1,16 +1,14 @@
 -- `river::first_negative` meets its contract. The loop's invariant: none of the first i units has a negative flow, and `arrived` holds what
 -- those contributed to each unit. Assumes nothing.
-use Prim.Native.Nat.{ℕ, suc, pred, ◌≤◌, ◌<◌, ◌+◌, ◌-◌}
+use Prim.Native.Nat.{suc, pred, ◌<◌, ◌+◌, ◌-◌}
 use mathlib.Core.Path.{◌≡◌, ap, sym}
-use mathlib.Core.Logic.{⊎_elim}
-use mathlib.Core.Bool.{true, not}
+use mathlib.Core.Bool.{not}
 use native.Mathlib.Omega.{arith}
 use native.Mathlib.Numerals.{add-one}
 use borrow.Author.Count.{below_none, below_more}
 use lib.ListN.{get_or}
-use lib.Signed.{non_neg}
 use Rattle.laws.proofs.Parts.{Less, less_monus, less_non_neg, less_negative}
-use Rattle.laws.proofs.Arrays.{Arrived, arrived_start, arrived_out, arrived_on}
+use Rattle.laws.proofs.Arrays.{arrived_start, arrived_out, arrived_on}
 use Rattle.river.specs.Units.{units_view}
 use Rattle.river.specs.Flow.{downstream, flow}
 use Rattle.river.specs.Reserve.{contribution}
@@ -65,9 +63,13 @@ onward c =
     (omega (arith, c.if-n-i.false)) (omega (arith, c.if-d-gt0.true))
 
 pub bounds-arrived-k : goal.bounds-arrived-k
-bounds-arrived-k c = omega (arith, ((let start = c in
-    below_of (units_view start.args.units start.args.n) start.requires c.loop-i.i
-    (omega (arith, c.if-n-i.false)) (omega (arith, c.if-d-gt0.true)))).within, c.requires.few)
+bounds-arrived-k c = omega (
+  arith,
+  ((let start = c in
+      below_of (units_view start.args.units start.args.n) start.requires c.loop-i.i
+      (omega (arith, c.if-n-i.false)) (omega (arith, c.if-d-gt0.true)))).within,
+  c.requires.few,
+)
 
 -- The unit's contribution goes on to its downstream unit.
 contributed : (c : After-struct_known-1)
@@ -102,13 +104,13 @@ loop-i-preserved c =
       below_more _ _ loop.invariant.1 (less_non_neg (reached (goal.at.loop-i-preserved c).After-loss-lost) (omega (arith, c.if-gained-lost.false))),
       rw (add-one i)
           (elim c.if-d-gt0.branch [
-          then-d-gt0 w ↦
-              let b = below_of v start.requires i (omega (arith, c.if-n-i.false)) (omega (arith, w.if-d-gt0.true)) in
-              let k : downstream v i - 1 < 64 = omega (arith, b.within, c.requires.few) in
-              let e : downstream v i ≡ suc (downstream v i - 1) = omega (arith, w.if-d-gt0.true) in
-              rw (w.arrived-is, contributed (goal.at.loop-i-preserved c).After-struct_known-1)
-              (arrived_on 64 (downstream v) (contribution v) i (downstream v i - 1) loop.arrived e k loop.invariant.2)
-          | else-d-gt0 w ↦ rw w.arrived-is (arrived_out 64 (downstream v) (contribution v) i loop.arrived (omega (arith, w.if-d-gt0.false)) loop.invariant.2)
+            | then-d-gt0 w ↦
+                let b = below_of v start.requires i (omega (arith, c.if-n-i.false)) (omega (arith, w.if-d-gt0.true)) in
+                let k : downstream v i - 1 < 64 = omega (arith, b.within, c.requires.few) in
+                let e : downstream v i ≡ suc (downstream v i - 1) = omega (arith, w.if-d-gt0.true) in
+                rw (w.arrived-is, contributed (goal.at.loop-i-preserved c).After-struct_known-1)
+                (arrived_on 64 (downstream v) (contribution v) i (downstream v i - 1) loop.arrived e k loop.invariant.2)
+            | else-d-gt0 w ↦ rw w.arrived-is (arrived_out 64 (downstream v) (contribution v) i loop.arrived (omega (arith, w.if-d-gt0.false)) loop.invariant.2)
           ]),
     )
 
