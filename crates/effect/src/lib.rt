@@ -1,5 +1,6 @@
 // What a title does to a balance: put in, it raises entries and stands in the next place; taken back, it lowers them by the same.
 #![tactic(auto)]
+
 mod entering;
 mod leaving;
 

@@ -1,6 +1,7 @@
 // The lines that the program prints. Each function puts one line into a lent buffer at a position, and
 // answers the position past it. A line is at most 128 bytes long, a call's line at most 64.
 #![tactic(auto)]
+
 ghost use Rattle.std.specs.Prelude.{◌+◌, ◌≤◌, [], length};
 ghost use Rattle.text.specs.Text.{Written};
 ghost use Rattle.report.specs.Lines.{unit_line, aquifer_line, refused_line, call_line, call_given, call_refused, call_cancelled};

@@ -1,7 +1,8 @@
 // The pieces of a printed line: bytes, words and decimal numbers put into a lent buffer. Each goes in at a position, and the answer is
 // the position past it.
 #![tactic(auto)]
-ghost use Rattle.std.specs.Prelude.{◌+◌, ◌≤◌, ◌≡◌, nat_abs, [], ◌∷◌, ◌++◌, length};
+
+ghost use Rattle.std.specs.Prelude.{◌+◌, ◌≤◌, ◌≡◌, nat_abs, [], ◌∷◌, ◌++◌, length, drop};
 ghost use Rattle.text.specs.Text.{ascii, Written};
 ghost use Rattle.text.specs.Text.{decimal, signed};
 
@@ -33,8 +34,25 @@ fn digits(out: &mut [u8], at: usize, n: u64) -> usize
     ensures { Written 20 out.old at (decimal n) out.new result }
 {
     let mut text = [0u8; 20];
-    let k = io::decimal(n, &mut text);
-    word(out, at, &text[..k])
+    let first = spell(n, &mut text);
+    word(out, at, &text[first..])
+}
+
+// n's decimal digits, put at the end of text: the last at its last place, and the answer is the place of the first.
+fn spell(n: u64, text: &mut [u8; 20]) -> usize
+    ensures within { result ≤ 20 }
+    ensures short { length (decimal n) ≤ 20 }
+    ensures digits { drop result text.new ≡ decimal n }
+{
+    let mut i = 19;
+    let mut rest = n;
+    while rest > 9 {
+        text[i] = b'0' + (rest % 10) as u8;
+        rest /= 10;
+        i -= 1;
+    }
+    text[i] = b'0' + rest as u8;
+    i
 }
 
 // A space and n's decimal digits.
