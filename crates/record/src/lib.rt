@@ -1,5 +1,6 @@
 // The records of a book: their bytes, marks and fields, the faults of a description's records, and the calls.
 #![tactic(auto)]
+
 mod bytes;
 mod calls;
 mod fault;

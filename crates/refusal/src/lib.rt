@@ -1,5 +1,6 @@
 // The grounds on which a grant is refused: 12 to 16 and 18 before its water is looked at, then 17.
 #![tactic(auto)]
+
 mod grounds;
 mod water;
 
