@@ -1,6 +1,7 @@
 // The register: titles granted, transferred and cancelled, each call from a balance to a reply. The steps of a call, for callers that run
 // many over one tested balance, are in `decision` and `outcome`.
 #![tactic(auto)]
+
 mod asked;
 pub mod decision;
 pub mod outcome;

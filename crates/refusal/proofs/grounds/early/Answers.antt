@@ -2,7 +2,6 @@
 use mathlib.Core.Path.{sym, ap, ◌∙◌}
 use mathlib.Core.List.{[]}
 use lib.ListN.{get_or}
-use borrow.Author.Rules.{rules}
 use Rattle.model.specs.Fresh.{empty_aquifer, empty_place}
 use Rattle.model.specs.View.{View}
 use Rattle.refusal.specs.Steps.{entries_view, early_number}

@@ -6,7 +6,6 @@ use mathlib.Core.List.{[]}
 use lib.ListN.{get_or}
 use native.Mathlib.Omega.{arith}
 use native.Mathlib.Numerals.{sub-one}
-use borrow.Author.Rules.{rules}
 use Rattle.laws.proofs.Chain.{hit, miss, t_and, f_and, f_and_on, or_none}
 use Rattle.model.specs.Fresh.{empty_unit}
 use Rattle.basin.proofs.Soundness.{number_exists, Exists}

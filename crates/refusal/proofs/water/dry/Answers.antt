@@ -6,7 +6,6 @@ use mathlib.Core.List.{List}
 use lib.Dec.{eqb}
 use lib.ListN.{get_or}
 use native.Mathlib.Omega.{arith}
-use borrow.Author.Rules.{rules}
 use Rattle.laws.proofs.Arrays.{get_or_table}
 use Rattle.laws.proofs.Every.{every_same}
 use Rattle.model.specs.View.{View}

@@ -1,17 +1,10 @@
 -- `refusal::dry_by` meets its contract. The loop's invariant: none of the first i units drains to the outlet and is in deficit. Assumes nothing.
-use Prim.Native.Nat.{ℕ, ◌≤◌, ◌<◌, ◌-◌}
-use mathlib.Core.Path.{◌≡◌, sym, ap, ◌∙◌}
-use mathlib.Core.Logic.{⊎_elim}
-use mathlib.Core.Bool.{false, not, ◌&&◌}
-use lib.Dec.{eqb}
-use lib.ListN.{get_or}
+use mathlib.Core.Path.{sym, ap, ◌∙◌}
+use mathlib.Core.Bool.{not}
 use native.Mathlib.Omega.{arith}
 use borrow.Author.Count.{below_none, below_more}
-use borrow.Author.Rules.{rules}
 use Rattle.laws.proofs.Chain.{t_eq, f_eq, t_and, f_and, f_and_on}
 use Rattle.laws.proofs.Every.{each_every, every_fails}
-use Rattle.figures.specs.Figures.{no_unit_figures}
-use Rattle.refusal.specs.Grant.{in_deficit}
 use Rattle.refusal.proofs.water.dry_by.Goals as goal
 use Rattle.refusal.proofs.water.dry_by.Goals.{then-ends-i+else-in_deficit, else-ends-i}
 

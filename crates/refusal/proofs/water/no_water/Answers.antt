@@ -3,7 +3,6 @@ use Prim.Native.Nat.{ℕ, pred, ◌-◌, ◌<◌}
 use mathlib.Core.Path.{sym, ap, ◌∙◌}
 use native.Mathlib.Omega.{arith}
 use native.Mathlib.Numerals.{sub-one}
-use borrow.Author.Rules.{rules}
 use Rattle.model.specs.View.{View}
 use Rattle.refusal.specs.Grant.{dry, drained}
 use Rattle.refusal.specs.Steps.{entries_view}
