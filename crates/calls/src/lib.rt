@@ -1,5 +1,6 @@
 // The calls of a book, run over a balance one after the other.
 #![tactic(auto)]
+
 pub mod tested;
 
 ghost use Rattle.std.specs.Prelude.{◌≡◌};

@@ -1,0 +1,49 @@
+-- `calls::run_tested` meets its contract. Assumes nothing.
+use mathlib.Core.Path.{refl, sym, ◌∙◌}
+use native.Mathlib.Omega.{arith}
+use borrow.Author.Count.{falls_down}
+use Rattle.calls.proofs.Running.{turn_ends, turn_fails, turn_asks, turn_refused, turn_none}
+use Rattle.calls.proofs.tested.run_tested.Goals as goal
+
+pub loop-left-init : goal.loop-left-init
+loop-left-init c = (refl, c.requires)
+
+pub overflow_sub-left : goal.overflow_sub-left
+overflow_sub-left c = c.loop-left-test.true
+
+pub returns-in-End : goal.returns-in-End
+returns-in-End c =
+    turn_ends _ _ _ _ _ c.loop-left-test.true c.loop-left.invariant.0 (sym c.in-End.ensures)
+
+pub returns-in-Fails : goal.returns-in-Fails
+returns-in-Fails c =
+    turn_fails _ _ _ _ _ _ c.loop-left-test.true c.loop-left.invariant.0 (sym c.in-Fails.ensures)
+
+pub decide-answer-requires : goal.decide-answer-requires
+decide-answer-requires c = c.loop-left.invariant.1
+
+pub perform-b-requires : goal.perform-b-requires
+perform-b-requires c = sym c.in-Accepted.ensures
+
+pub loop-left-smaller-in-Accepted : goal.loop-left-smaller-in-Accepted
+loop-left-smaller-in-Accepted c = falls_down _ c.loop-left-test.true
+
+pub loop-left-preserved-in-Accepted : goal.loop-left-preserved-in-Accepted
+loop-left-preserved-in-Accepted c = (
+  rw c.perform-b.ensures.value
+      (turn_asks _ _ _ _ _ _ _ c.loop-left-test.true c.loop-left.invariant.0 (sym c.in-Asks.ensures)),
+  c.loop-left.invariant.1 ∙ c.perform-b.ensures.b_value,
+)
+
+pub loop-left-smaller : goal.loop-left-smaller
+loop-left-smaller c = falls_down _ c.loop-left-test.true
+
+pub loop-left-preserved : goal.loop-left-preserved
+loop-left-preserved c = (
+  turn_refused _ _ _ _ _ _ _ _ c.loop-left-test.true c.loop-left.invariant.0 (sym c.in-Asks.ensures)
+      (sym c.in-Refused.ensures),
+  c.loop-left.invariant.1,
+)
+
+pub returns : goal.returns
+returns c = turn_none _ _ _ _ _ (omega arith) c.loop-left.invariant.0
