@@ -17,7 +17,7 @@ use Rattle.model.specs.declared.Found.TheVariants.{At, Nothing}
 use Rattle.model.specs.Answers.{first}
 use Rattle.model.specs.Fresh.{empty_unit, empty_aquifer}
 use Rattle.model.specs.View.{view_of}
-use Rattle.river.specs.Flow.{downstream, flow, gain, loss}
+use Rattle.river.specs.Flow.{flow, gain, loss}
 use Rattle.river.proofs.Firsts.{first_same}
 use Rattle.runoff.specs.Record.{gauged_on, sum_on}
 use Rattle.runoff.proofs.Rounding.{natural_within}

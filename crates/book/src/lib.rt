@@ -1,5 +1,6 @@
 // The book: reading a description record by record, and opening it as a balance.
 #![tactic(auto)]
+
 mod opening;
 mod step;
 
