@@ -1,5 +1,6 @@
 // What the program prints for a book, put into a lent buffer.
 #![tactic(auto)]
+
 ghost use Rattle.std.specs.Prelude.{◌≡◌, ◌+◌, ◌≤◌, length, get_or, true};
 ghost use Rattle.model.specs.View.{view_of};
 ghost use Rattle.model.specs.Limits.{unit_limit, aquifer_limit};

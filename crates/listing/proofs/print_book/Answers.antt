@@ -1,0 +1,36 @@
+-- `listing::print_book` meets its contract. Assumes nothing.
+use mathlib.Core.Path.{sym, ap, ◌∙◌}
+use native.Mathlib.Omega.{arith}
+use Rattle.book.specs.declared.Opened.{Opened}
+use Rattle.book.proofs.Promises.{opened_sound}
+use Rattle.report.specs.Lines.{refused_line}
+use Rattle.text.proofs.Writing.{widen, restate}
+use Rattle.listing.specs.Listing.{run_text}
+use Rattle.listing.proofs.Tables.{printed_long, printed_accepted, printed_refused}
+use Rattle.listing.proofs.print_book.Goals as goal
+
+pub returns-then-s-gt65536 : goal.returns-then-s-gt65536
+returns-then-s-gt65536 c = widen (restate c.refused_line.ensures (printed_long c.args.s.now c.if-s-gt65536.true)) (omega arith)
+
+pub run_lines-requires : goal.run_lines-requires
+run_lines-requires c =
+    let s = c.args.s.now in
+    (omega (arith, c.if-s-gt65536.false), opened_sound s _ c.read_book-o.ensures)
+
+pub returns-in-Accepted : goal.returns-in-Accepted
+returns-in-Accepted c =
+    let s = c.args.s.now in
+    let r = c.read_book-o.ensures in
+    restate c.run_lines.ensures
+    (ap (λ (o : Opened). run_text s o.place o.balance) r
+    ∙ printed_accepted s c.if-s-gt65536.false (ap (λ (o : Opened). o.answer) (sym r) ∙ c.in-Accepted.is))
+
+pub returns-in-Refused : goal.returns-in-Refused
+returns-in-Refused c =
+    let s = c.args.s.now in
+    let r = c.read_book-o.ensures in
+    widen
+    (restate c.refused_line-in-Refused.ensures
+    (ap (λ (o : Opened). refused_line c.in-Refused.number o.place) r
+    ∙ printed_refused s _ c.if-s-gt65536.false (ap (λ (o : Opened). o.answer) (sym r) ∙ c.in-Refused.is)))
+    (omega arith)
