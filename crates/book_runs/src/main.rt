@@ -1,31 +1,34 @@
 // Runs each book that an argument names through the function of `balance`, and prints its name and what is printed for it.
 #![tactic(auto)]
-use libc::STDOUT_FILENO;
 
-// One book: a line with its name, then what is printed for it.
-fn run(i: usize) {
-    let mut path = io::buffer();
-    let length = os::arg(i, &mut path);
-    io::write_all(STDOUT_FILENO, &path[..length]);
-    io::write_all(STDOUT_FILENO, b"\n");
-    let fd = os::open_read(&path[..length]);
-    if fd < 0 {
-        os::fail(&path[..length]);
-        return;
-    }
-    let mut book = [0u8; 65537];
-    let n = io::read_full(fd, &mut book);
-    libc::close(fd);
+use std::io::{Read, Write};
+use std::rt::Files;
+use std::{env, fs, io};
+
+// How much is read of a book: one byte more than a book may have.
+const MOST: u64 = 65537;
+
+// What is printed for a book.
+fn print(rt: &(impl Print + Alloc), from: impl Read + Drop) -> io::Result<()> {
+    let mut book = Vec::new(rt.alloc());
+    from.take(MOST).read_to_end(&mut book)?;
     let mut out = [0u8; report::ROOM];
-    let m = listing::print_book(&book[..n], &mut out);
-    io::write_all(STDOUT_FILENO, &out[..m]);
+    let m = listing::print_book(&book, &mut out);
+    io::writer(rt).write_all(&out[..m])
 }
 
-fn main() {
-    let count = os::arg_count();
-    let mut i = 1;
-    while i < count {
-        run(i);
-        i += 1;
+// One book: a line with its name, then what is printed for it.
+fn run(rt: &(impl Files + Print + Eprint + Alloc), path: &str) -> io::Result<()> {
+    println!(rt; "{path}")?;
+    match fs::open(rt, path) {
+        Ok(from) => print(rt, from),
+        Err(error) => eprintln!(rt; "{path}: {error}"),
     }
+}
+
+fn main(rt: HostRuntime) -> io::Result<()> {
+    for path in env::args(&rt)?.skip(1) {
+        run(&rt, path.as_str())?;
+    }
+    Ok(())
 }

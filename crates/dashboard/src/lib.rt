@@ -1,5 +1,7 @@
-// What a dashboard links: the book as bytes in, the printed text or the table of figures out. The names are those of include/hasheqro.h.
+// What a dashboard links: the book as bytes in, the printed text or the table of figures out. The crate `dashboard_c` exports these functions
+// to C, under the names of include/hasheqro.h.
 #![tactic(auto)]
+
 ghost use Rattle.std.specs.Prelude.{◌≡◌, ◌*◌};
 ghost use Rattle.text.specs.Text.{Written};
 ghost use Rattle.listing.specs.Listing.{printed};
@@ -27,8 +29,7 @@ pub struct Table {
 }
 
 // What `balance` prints for a book.
-#[unsafe(no_mangle)]
-pub extern "C" fn hasheqro_print(book: &[u8], out: &mut [u8; ROOM]) -> usize
+pub fn hasheqro_print(book: &[u8], out: &mut [u8; ROOM]) -> usize
     ensures { Written 1064960 out.old 0 (printed book.now) out.new result }
 {
     listing::print_book(book, out)
@@ -67,8 +68,7 @@ fn table_after(ran: Ran) -> Table
 }
 
 // The table of a book: its description opened, its calls run.
-#[unsafe(no_mangle)]
-pub extern "C" fn hasheqro_figures(book: &[u8]) -> Table
+pub fn hasheqro_figures(book: &[u8]) -> Table
     ensures { result ≡ tables.book_table book.now }
 {
     let o = book::read_book(book);
@@ -82,8 +82,7 @@ pub extern "C" fn hasheqro_figures(book: &[u8]) -> Table
 }
 
 // The place that opening a book returns.
-#[unsafe(no_mangle)]
-pub extern "C" fn hasheqro_open(book: &[u8]) -> u64
+pub fn hasheqro_open(book: &[u8]) -> u64
     ensures { result ≡ (opened book.now).place }
 {
     let o = book::read_book(book);
@@ -108,8 +107,7 @@ fn balance_after(book: &[u8]) -> Balance
 }
 
 // How many title numbers are given after the calls of a book.
-#[unsafe(no_mangle)]
-pub extern "C" fn hasheqro_run(book: &[u8]) -> u64
+pub fn hasheqro_run(book: &[u8]) -> u64
     ensures { result ≡ (tables.balance_after book.now).given }
 {
     let b = balance_after(book);
@@ -129,8 +127,7 @@ fn figured(b: Balance) -> u64
 }
 
 // Works out the figures of a book after its calls so many times, to be timed, and counts how often they are given.
-#[unsafe(no_mangle)]
-pub extern "C" fn hasheqro_refigure(book: &[u8], times: u64) -> u64
+pub fn hasheqro_refigure(book: &[u8], times: u64) -> u64
     ensures { result ≡ times * tables.figured (tables.balance_after book.now) }
 {
     let b = balance_after(book);

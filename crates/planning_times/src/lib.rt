@@ -1,5 +1,7 @@
-// For timing: keeping, going back and an ordinary call, many times over, on the state of a book in which four balances are kept.
+// For timing: keeping, going back and an ordinary call, many times over, on the state of a book in which four balances are kept. The crate
+// `planning_times_c` exports these functions to C.
 #![tactic(auto)]
+
 ghost use Rattle.std.specs.Prelude.{◌≡◌};
 ghost use Rattle.planning_times.specs.Timed as timed;
 
@@ -61,8 +63,7 @@ fn kept(start: State, times: u64) -> State
 }
 
 // How many of so many keepings under the names in turn are accepted.
-#[unsafe(no_mangle)]
-pub extern "C" fn hasheqro_rekeep(book: &[u8], times: u64) -> u64
+pub fn hasheqro_rekeep(book: &[u8], times: u64) -> u64
     ensures { result ≡ timed.counted timed.keep_turn times 0 (timed.filled book.now) }
 {
     let mut s = kept(after_calls(book), 4);
@@ -80,8 +81,7 @@ pub extern "C" fn hasheqro_rekeep(book: &[u8], times: u64) -> u64
 }
 
 // How many of so many returns to the names in turn are accepted.
-#[unsafe(no_mangle)]
-pub extern "C" fn hasheqro_reback(book: &[u8], times: u64) -> u64
+pub fn hasheqro_reback(book: &[u8], times: u64) -> u64
     ensures { result ≡ timed.counted timed.back_turn times 0 (timed.filled book.now) }
 {
     let mut s = kept(after_calls(book), 4);
@@ -99,8 +99,7 @@ pub extern "C" fn hasheqro_reback(book: &[u8], times: u64) -> u64
 }
 
 // How many of so many cancellations of number 0, each asked of the current balance alone, are refused.
-#[unsafe(no_mangle)]
-pub extern "C" fn hasheqro_reask(book: &[u8], times: u64) -> u64
+pub fn hasheqro_reask(book: &[u8], times: u64) -> u64
     ensures { result ≡ timed.counted timed.ask_turn times 0 (timed.filled book.now) }
 {
     let mut s = kept(after_calls(book), 4);

@@ -5,6 +5,8 @@ use crate::changed::changed;
 use crate::replies::replies;
 use crate::{change, print};
 use model::Balance;
+use std::io;
+use std::io::Write;
 
 // Where in a line a byte stands: at its start, in what is printed, in the changes, in a comment.
 pub(crate) const START: u8 = 0;
@@ -35,11 +37,12 @@ pub(crate) fn next_part(part: u8, byte: u8) -> u8 {
 }
 
 // Prints a byte of the name.
-pub(crate) fn echo(part: u8, byte: u8) {
+pub(crate) fn echo(out: &mut impl Write, part: u8, byte: u8) -> io::Result<()> {
     if part == NAME {
         let bytes = [byte];
-        print::text(&bytes);
+        print::text(out, &bytes)?;
     }
+    Ok(())
 }
 
 // The change that is read, after a byte.
@@ -54,22 +57,29 @@ pub(crate) fn next_change(c: Change, part: u8, byte: u8) -> Change {
 }
 
 // The balance after a byte: the change is made at the end of its text, and at the end of the line the calls.
-fn next_balance(base: Balance, b: Balance, c: Change, part: u8, byte: u8) -> Balance {
+fn next_balance(
+    out: &mut impl Write,
+    base: Balance,
+    b: Balance,
+    c: Change,
+    part: u8,
+    byte: u8,
+) -> io::Result<Balance> {
     if part == COMMENT {
-        return b;
+        return Ok(b);
     }
     if byte == b';' {
-        return changed(b, c);
+        return Ok(changed(b, c));
     }
     if byte == b'\n' {
-        replies(changed(b, c));
-        return base;
+        replies(out, changed(b, c))?;
+        return Ok(base);
     }
-    b
+    Ok(b)
 }
 
 // All lines.
-pub(crate) fn run(base: Balance, s: &[u8]) {
+pub(crate) fn run(out: &mut impl Write, base: Balance, s: &[u8]) -> io::Result<()> {
     let mut b = base;
     let mut c = change::none();
     let mut part = START;
@@ -77,12 +87,13 @@ pub(crate) fn run(base: Balance, s: &[u8]) {
     while i < s.len() {
         let byte = s[i];
         let next = next_part(part, byte);
-        echo(next, byte);
-        let balance = next_balance(base, b, c, part, byte);
+        echo(out, next, byte)?;
+        let balance = next_balance(out, base, b, c, part, byte)?;
         let read = next_change(c, next, byte);
         b = balance;
         c = read;
         part = next;
         i += 1;
     }
+    Ok(())
 }

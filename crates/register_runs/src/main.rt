@@ -2,7 +2,8 @@
 // states. The base of them all is the balance of the book `broken-base` after its calls; each line of the file `balances` says what is
 // printed and what is changed in it, and each line of the file `states` also which calls are made.
 #![tactic(auto)]
-ghost use Rattle.io.specs.Counts.{IsPrefixLen};
+
+ghost use Rattle.std.specs.Prelude.{◌≤◌, IfOk, length};
 
 mod change;
 mod changed;
@@ -15,6 +16,9 @@ mod states;
 
 use model::Balance;
 use planning::State;
+use std::io::{BufWriter, Read, Write};
+use std::rt::Files;
+use std::{fs, io};
 
 // The balance of a book after its calls.
 fn balance_of(s: &[u8]) -> Balance {
@@ -29,25 +33,36 @@ fn balance_of(s: &[u8]) -> Balance {
 const ROOM: usize = 131072;
 
 // The bytes of a file, put into a buffer, and how many they are.
-fn read(name: &[u8], bytes: &mut [u8; ROOM]) -> usize
-    ensures { IsPrefixLen result bytes.new }
+fn read(rt: &impl Files, name: &str, bytes: &mut [u8; ROOM]) -> io::Result<usize>
+    ensures { IfOk result (λ n. n ≤ length bytes.new) }
 {
-    let fd = os::open_read(name);
-    if fd < 0 {
-        os::fail(name);
-        return 0;
-    }
-    let n = io::read_full(fd, bytes);
-    libc::close(fd);
-    n
+    let mut from = fs::open(rt, name)?;
+    read_full(&mut from, bytes)
 }
 
-fn main() {
+// Reads until the buffer is full or nothing is left, and answers how many bytes were read.
+fn read_full(from: &mut impl Read, bytes: &mut [u8]) -> io::Result<usize>
+    ensures { IfOk result (λ n. n ≤ length bytes.new) }
+{
+    let mut n = 0;
+    while n < bytes.len() {
+        let more = from.read(&mut bytes[n..])?;
+        if more == 0 {
+            break;
+        }
+        n += more;
+    }
+    Ok(n)
+}
+
+fn main(rt: HostRuntime) -> io::Result<()> {
+    let mut out = BufWriter::new(rt.alloc(), io::writer(&rt))?;
     let mut bytes = [0u8; ROOM];
-    let n = read(b"broken-base", &mut bytes);
+    let n = read(&rt, "broken-base", &mut bytes)?;
     let base = balance_of(&bytes[..n]);
-    let m = read(b"balances", &mut bytes);
-    line::run(base, &bytes[..m]);
-    let k = read(b"states", &mut bytes);
-    states::run(State::nothing_kept(base), &bytes[..k]);
+    let m = read(&rt, "balances", &mut bytes)?;
+    line::run(&mut out, base, &bytes[..m])?;
+    let k = read(&rt, "states", &mut bytes)?;
+    states::run(&mut out, State::nothing_kept(base), &bytes[..k])?;
+    out.flush()
 }

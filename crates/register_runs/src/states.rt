@@ -7,43 +7,45 @@ use crate::name::name_of;
 use crate::replies::show;
 use crate::{change, line};
 use planning::State;
+use std::io;
+use std::io::Write;
 
 // Keeping under the name of a number.
-fn kept(s: State, n: u64) -> State {
+fn kept(out: &mut impl Write, s: State, n: u64) -> io::Result<State> {
     let r = planning::keep(s, name_of(n));
     let answer = r.answer;
-    show(b" kept", answer, r.number);
-    r.state
+    show(out, b" kept", answer, r.number)?;
+    Ok(r.state)
 }
 
 // Going back to the name of a number.
-fn returned(s: State, n: u64) -> State {
+fn returned(out: &mut impl Write, s: State, n: u64) -> io::Result<State> {
     let r = planning::back(s, name_of(n));
     let answer = r.answer;
-    show(b" back", answer, r.number);
-    r.state
+    show(out, b" back", answer, r.number)?;
+    Ok(r.state)
 }
 
 // A withdrawal from a unit, asked of the current balance alone.
-fn granted(mut s: State, unit: u8, volume: u32) -> State {
+fn granted(out: &mut impl Write, mut s: State, unit: u8, volume: u32) -> io::Result<State> {
     let current = s.balance;
     let r = register::withdraw(current, unit, 1, volume);
     let answer = r.answer;
-    show(b" given", answer, r.number);
+    show(out, b" given", answer, r.number)?;
     let balance = r.balance;
     s.balance = balance;
-    s
+    Ok(s)
 }
 
 // A cancellation, asked of the current balance alone.
-fn cancelled(mut s: State, number: u16) -> State {
+fn cancelled(out: &mut impl Write, mut s: State, number: u16) -> io::Result<State> {
     let current = s.balance;
     let r = register::cancel(current, number);
     let answer = r.answer;
-    show(b" cancelled", answer, r.number);
+    show(out, b" cancelled", answer, r.number)?;
     let balance = r.balance;
     s.balance = balance;
-    s
+    Ok(s)
 }
 
 // With another count of places in use.
@@ -75,48 +77,56 @@ fn with_kept(mut s: State, place: u64) -> State {
 }
 
 // A call on the state, or a change of what is kept, by its second letter.
-fn planned(s: State, c: Change) -> State {
+fn planned(out: &mut impl Write, s: State, c: Change) -> io::Result<State> {
     let field = c.field;
     match field {
-        b'n' => kept(s, c.value),
-        b'b' => returned(s, c.value),
-        b'g' => granted(s, change::small(c.third), change::word(c.value)),
-        b'c' => cancelled(s, change::half(c.value)),
-        b's' => with_count(s, c.value),
-        b'w' => with_name(s, c.third, c.value),
-        b'k' => with_kept(s, c.value),
-        _ => s,
+        b'n' => kept(out, s, c.value),
+        b'b' => returned(out, s, c.value),
+        b'g' => granted(out, s, change::small(c.third), change::word(c.value)),
+        b'c' => cancelled(out, s, change::half(c.value)),
+        b's' => Ok(with_count(s, c.value)),
+        b'w' => Ok(with_name(s, c.third, c.value)),
+        b'k' => Ok(with_kept(s, c.value)),
+        _ => Ok(s),
     }
 }
 
 // The state after a change of the current balance, or after what begins with the letter k.
-fn after(mut s: State, c: Change) -> State {
+fn after(out: &mut impl Write, mut s: State, c: Change) -> io::Result<State> {
     if c.kind == b'k' {
-        return planned(s, c);
+        return planned(out, s, c);
     }
     let current = s.balance;
     let balance = changed(current, c);
     s.balance = balance;
-    s
+    Ok(s)
 }
 
 // The state after a byte: a change or a call is made at the end of its text, and at the end of the line the state is printed.
-fn next_state(base: State, s: State, c: Change, part: u8, byte: u8) -> State {
+fn next_state(
+    out: &mut impl Write,
+    base: State,
+    s: State,
+    c: Change,
+    part: u8,
+    byte: u8,
+) -> io::Result<State> {
     if part == line::COMMENT {
-        return s;
+        return Ok(s);
     }
     if byte == b';' {
-        return after(s, c);
+        return after(out, s, c);
     }
     if byte == b'\n' {
-        dump(after(s, c));
-        return base;
+        let state = after(out, s, c)?;
+        dump(out, state)?;
+        return Ok(base);
     }
-    s
+    Ok(s)
 }
 
 // All lines.
-pub(crate) fn run(base: State, s: &[u8]) {
+pub(crate) fn run(out: &mut impl Write, base: State, s: &[u8]) -> io::Result<()> {
     let mut state = base;
     let mut c = change::none();
     let mut part = line::START;
@@ -124,12 +134,13 @@ pub(crate) fn run(base: State, s: &[u8]) {
     while i < s.len() {
         let byte = s[i];
         let next = line::next_part(part, byte);
-        line::echo(next, byte);
-        let after = next_state(base, state, c, part, byte);
+        line::echo(out, next, byte)?;
+        let after = next_state(out, base, state, c, part, byte)?;
         let read = line::next_change(c, next, byte);
         state = after;
         c = read;
         part = next;
         i += 1;
     }
+    Ok(())
 }

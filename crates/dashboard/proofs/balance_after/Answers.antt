@@ -1,0 +1,7 @@
+-- An accepted description leaves a sound balance. Assumes nothing.
+use Rattle.std.proofs.Common.{sym}
+use Rattle.book.proofs.Promises.{opened_sound}
+use Rattle.dashboard.proofs.balance_after.Goals as goal
+
+pub run_tested-ran-requires : goal.run_tested-ran-requires
+run_tested-ran-requires c = sym (opened_sound c.args.book.now _ c.read_book-o.ensures)
