@@ -85,7 +85,7 @@ fn aquifer_line(out: &mut [u8; ROOM], at: usize, k: usize, f: AquiferFigures) ->
 }
 
 // The table of a balance: its units and then its aquifers.
-fn table(out: &mut [u8; ROOM], at: usize, b: Balance) -> usize
+pub fn table(out: &mut [u8; ROOM], at: usize, b: Balance) -> usize
     requires { at + 12288 ≤ 1064960 }
     ensures { Written 12288 out.old at (text.table_text (view_of b)) out.new result }
 {
@@ -105,7 +105,7 @@ fn table(out: &mut [u8; ROOM], at: usize, b: Balance) -> usize
 }
 
 // The line of an accepted call.
-fn accepted_line(out: &mut [u8; ROOM], at: usize, k: u64, call: Call, number: u16) -> usize
+pub fn accepted_line(out: &mut [u8; ROOM], at: usize, k: u64, call: Call, number: u16) -> usize
     requires { at + 64 ≤ 1064960 }
     ensures { Written 64 out.old at (text.accepted_text k call number) out.new result }
 {

@@ -10,7 +10,7 @@ use crate::{CallMark, Mark, UnitRecord};
 use model::{Aquifer, Unit};
 
 // The two letters stand at the two bytes.
-fn spells(a: u8, b: u8, x: u8, y: u8) -> bool
+pub fn spells(a: u8, b: u8, x: u8, y: u8) -> bool
     ensures { result ≡ records.spells a b x y }
 {
     if a != x {

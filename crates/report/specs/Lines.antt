@@ -41,3 +41,11 @@ call_refused k n = call_line k (ascii "refused") n
 -- `call K cancelled N`: the call's place among the calls and the number of the title cancelled.
 unfoldable pub call_cancelled : ℕ → ℕ → List ℕ
 call_cancelled k n = call_line k (ascii "cancelled") n
+
+-- `call K kept`: the call's place among the calls.
+unfoldable pub call_kept : ℕ → List ℕ
+call_kept k = line (ascii "call") (decimal k ∷ ascii "kept" ∷ [])
+
+-- `call K back`: the call's place among the calls.
+unfoldable pub call_back : ℕ → List ℕ
+call_back k = line (ascii "call") (decimal k ∷ ascii "back" ∷ [])

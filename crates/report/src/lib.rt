@@ -4,7 +4,7 @@
 
 ghost use Rattle.std.specs.Prelude.{◌+◌, ◌≤◌, [], length};
 ghost use Rattle.text.specs.Text.{Written};
-ghost use Rattle.report.specs.Lines.{unit_line, aquifer_line, refused_line, call_line, call_given, call_refused, call_cancelled};
+ghost use Rattle.report.specs.Lines.{unit_line, aquifer_line, refused_line, call_line, call_given, call_refused, call_cancelled, call_kept, call_back};
 
 // The size of the buffer: room for 16,384 call lines, as many as a book of 65,536 bytes can have calls, and for the table.
 pub const ROOM: usize = 1064960;
@@ -91,6 +91,28 @@ pub fn call_cancelled(out: &mut [u8; ROOM], at: usize, k: u64, n: u64) -> usize
     ensures { Written 64 out.old at (call_cancelled k n) out.new result }
 {
     call_line(out, at, k, b"cancelled", n)
+}
+
+// `call K kept`: the call's place among the calls.
+pub fn call_kept(out: &mut [u8; ROOM], at: usize, k: u64) -> usize
+    requires { at + 64 ≤ 1064960 }
+    ensures { Written 64 out.old at (call_kept k) out.new result }
+{
+    let a = text::word(out, at, b"call");
+    let b = text::number(out, a, k);
+    let c = text::word(out, b, b" kept");
+    text::byte(out, c, b'\n')
+}
+
+// `call K back`: the call's place among the calls.
+pub fn call_back(out: &mut [u8; ROOM], at: usize, k: u64) -> usize
+    requires { at + 64 ≤ 1064960 }
+    ensures { Written 64 out.old at (call_back k) out.new result }
+{
+    let a = text::word(out, at, b"call");
+    let b = text::number(out, a, k);
+    let c = text::word(out, b, b" back");
+    text::byte(out, c, b'\n')
 }
 
 // `call K W N`: the call's place among the calls, the word for its outcome, and a number.
