@@ -1,5 +1,6 @@
 // Planning states: the current balance, and up to four balances kept under names, to come back to (document 02 [3]).
 #![tactic(auto)]
+
 mod calls;
 mod names;
 mod opening;

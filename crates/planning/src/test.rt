@@ -24,6 +24,7 @@ fn kept_sound(kept: [Balance; State::PLACES], count: usize) -> bool
 }
 
 // A state is sound if its current balance is, no more than four balances are kept, each of them is sound, and no name is kept twice.
+#[tactic(auto, unfolding(crate::specs::State::sound_state))]
 pub fn sound(s: State) -> bool
     ensures { result ≡ states.sound_state s }
 {
