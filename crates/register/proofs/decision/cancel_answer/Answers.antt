@@ -35,7 +35,7 @@ returns-then-b-k c =
 pub bounds-b-k : goal.bounds-b-k
 bounds-b-k c =
     let start = c in
-    omega (arith, c.if-b-k.false, (soundness (view_of start.args.b) start.requires).few_titles)
+    omega (arith, (soundness (view_of start.args.b) start.requires).few_titles)
 
 pub returns-then-not-in_force : goal.returns-then-not-in_force
 returns-then-not-in_force c =
@@ -43,7 +43,7 @@ returns-then-not-in_force c =
     let b = start.args.b in
     let n = start.args.number in
     ap (λ (r : Reply). r.answer) (reply_not_in_force b n start.requires
-    (out_of_force (view_of b) n (omega (arith, c.if-k-eq0.false)) (omega (arith, c.if-b-k.false))
+    (out_of_force (view_of b) n (omega arith) (omega arith)
     (sym (ap (λ (k : ℕ). (get_or b.titles k empty_place).in_force) (sub-one n)) ∙ c.if-not-in_force.true)))
 
 -- The number is in force.
@@ -52,7 +52,7 @@ stands c =
     let start = c in
     let b = start.args.b in
     let n = start.args.number in
-    is_in_force (view_of b) n (omega (arith, c.if-k-eq0.false)) (omega (arith, c.if-b-k.false))
+    is_in_force (view_of b) n (omega arith) (omega arith)
     (sym (ap (λ (k : ℕ). (get_or b.titles k empty_place).in_force) (sub-one n)) ∙ c.if-not-in_force.false)
 
 pub needed-requires : goal.needed-requires
