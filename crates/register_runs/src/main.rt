@@ -3,7 +3,7 @@
 // printed and what is changed in it, and each line of the file `states` also which calls are made.
 #![tactic(auto)]
 
-ghost use Rattle.std.specs.Prelude.{◌≤◌, IfOk, length};
+ghost use Rattle.std.specs.Io.{ReadsAtMost};
 
 mod change;
 mod changed;
@@ -34,7 +34,7 @@ const ROOM: usize = 131072;
 
 // The bytes of a file, put into a buffer, and how many they are.
 fn read(rt: &impl Files, name: &str, bytes: &mut [u8; ROOM]) -> io::Result<usize>
-    ensures { IfOk result (λ n. n ≤ length bytes.new) }
+    ensures { ReadsAtMost result bytes.new }
 {
     let mut from = fs::open(rt, name)?;
     read_full(&mut from, bytes)
@@ -42,7 +42,7 @@ fn read(rt: &impl Files, name: &str, bytes: &mut [u8; ROOM]) -> io::Result<usize
 
 // Reads until the buffer is full or nothing is left, and answers how many bytes were read.
 fn read_full(from: &mut impl Read, bytes: &mut [u8]) -> io::Result<usize>
-    ensures { IfOk result (λ n. n ≤ length bytes.new) }
+    ensures { ReadsAtMost result bytes.new }
 {
     let mut n = 0;
     while n < bytes.len() {
