@@ -2,3 +2,4 @@
 pub mod Naming
 pub mod Replying
 pub mod Promises
+pub mod Deciding

@@ -40,10 +40,10 @@ unfolding sound_state
 stands s p = t_and _ _ p.current (t_and _ _ (le-leb _ _ p.few) (t_and _ _ p.kept p.apart))
 
 -- The replies by what the test for 0 gave and where the name was found.
-abbrev keep_by : State → Name → Bool → Found → Bool → Reply
+abbrev pub keep_by : State → Name → Bool → Found → Bool → Reply
 keep_by s n test f full = replied (refuse 0 (not test) (refuse 22 (not (is_found f) && full) none)) s (kept_in s n f)
 
-abbrev back_by : State → Bool → Found → Reply
+abbrev pub back_by : State → Bool → Found → Reply
 back_by s test f = replied (refuse 0 (not test) (refuse 23 (not (is_found f)) none)) s (returned_to s f)
 
 module _ (s : State) (n : Name) where

@@ -2,3 +2,4 @@
 pub mod Names
 pub mod State
 pub mod Calls
+pub mod Decision

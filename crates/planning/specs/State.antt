@@ -1,5 +1,5 @@
 -- A planning state, and the test for 0 of it (document 02 [3]). Assumes nothing.
-use Rattle.std.specs.Prelude.{ℕ, Bool, ◌&&◌, List, [], leb, get_or, replicate}
+use Rattle.std.specs.Prelude.{ℕ, ◌≡◌, Bool, ◌&&◌, List, [], leb, length, get_or, replicate}
 use Rattle.laws.specs.Sum.{every}
 use Rattle.model.specs.declared.Balance.{Balance}
 use Rattle.model.specs.Fresh.{fresh_balance}
@@ -34,3 +34,8 @@ kept_sound kept n = every n (λ k. sound (view_of (balance_at kept k)))
 unfoldable pub sound_state : State → Bool
 sound_state s =
     sound (view_of s.balance) && (leb s.count place_limit && (kept_sound s.kept s.count && distinct s.names s.count))
+
+-- The arrays of a state have their four places, as every state of the program has.
+pub record Sized (s : State) : Type 0 where
+  pub names : length s.names ≡ place_limit
+  pub kept : length s.kept ≡ place_limit

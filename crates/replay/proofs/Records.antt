@@ -1,5 +1,5 @@
 -- What stands at an offset of a journal, and how far its record goes. Assumes nothing.
-use Prim.Native.Nat.{ℕ, ◌+◌, ◌-◌, ◌≤◌, ◌<◌}
+use Prim.Native.Nat.{ℕ, ◌+◌, ◌-◌, ◌≤◌}
 use mathlib.Core.Path.{◌≡◌, refl, sym, ap, subst, ◌∙◌}
 use mathlib.Core.List.{List}
 use lib.ListN.{length}
@@ -15,8 +15,8 @@ use Rattle.requests.specs.declared.OwnMark.{OwnMark}
 use Rattle.requests.specs.declared.OwnMark.TheVariants.{Kp, Gb, None}
 use Rattle.requests.specs.declared.RecordAt.{RecordAt}
 use Rattle.requests.specs.declared.RecordAt.TheVariants.{End, Fails, Calls, Keeps, Returns}
-use Rattle.requests.specs.Records.{own_at, own_marked, whole_record, besides, record_at}
-use Rattle.requests.specs.Requests.{Asking, asking, request_at}
+use Rattle.requests.specs.Records.{own_at, own_marked, besides, record_at}
+use Rattle.requests.specs.Requests.{asking, request_at}
 
 -- What is asked, by the record that was read.
 pub asked : (s : List ℕ) (at : ℕ) (r x : RecordAt) → r ≡ record_at s at → r ≡ x → request_at s at ≡ asking x s at

@@ -1,12 +1,10 @@
 -- The loop over the records of a page: the replies written so far and those of the records that are left are the whole page. Assumes nothing.
-use Prim.Native.Nat.{ℕ, zero, suc, ◌+◌, ◌-◌, ◌*◌, ◌≤◌, ◌<◌}
-use mathlib.Core.Path.{◌≡◌, refl, sym, ap, subst, ◌∙◌}
+use Prim.Native.Nat.{ℕ, suc, ◌+◌, ◌-◌, ◌*◌, ◌≤◌, ◌<◌}
+use mathlib.Core.Path.{◌≡◌, refl, sym, ap, ◌∙◌}
 use mathlib.Core.Bool.{Bool, true, false}
 use mathlib.Core.List.{List, [], ◌++◌, append-nil, append_assoc}
 use native.Mathlib.Omega.{arith}
-use Rattle.model.specs.declared.Balance.{Balance}
 use Rattle.planning.specs.declared.State.{State}
-use Rattle.planning.specs.Calls.{with_current}
 use Rattle.requests.specs.Requests.{Request, state_after, Asking, ends, fails, asks, request_at}
 use Rattle.text.specs.Text.{Written}
 use Rattle.text.proofs.Writing.{then, widen, still}

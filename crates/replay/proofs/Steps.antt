@@ -1,38 +1,31 @@
 -- What each kind of record does to the state and to the two tests for 0, by what was decided. Assumes nothing.
-use Prim.Native.Nat.{ℕ, ◌+◌, ◌<◌}
-use mathlib.Core.Path.{◌≡◌, refl, sym, ap, ◌∙◌}
+use Prim.Native.Nat.{ℕ}
+use mathlib.Core.Path.{◌≡◌, sym, ap, subst, ◌∙◌}
 use mathlib.Core.Bool.{Bool, true, ◌&&◌}
-use mathlib.Core.List.{List}
 use lib.Dec.{leb}
-use lib.ListN.{length, set, length-set}
+use lib.ListN.{length}
 use Rattle.model.specs.declared.Answer.{Answer}
 use Rattle.model.specs.declared.Answer.TheVariants.{Accepted, Refused}
 use Rattle.model.specs.declared.Balance.{Balance}
 use Rattle.model.specs.declared.Call.{Call}
-use Rattle.model.specs.Limits.{title_limit}
 use Rattle.model.specs.View.{view_of}
 use Rattle.basin.specs.Sound.{sound}
 use Rattle.register.specs.Calls.{call_reply, call_number}
-use Rattle.register.specs.declared.Reply.{Reply as CallReply}
 use Rattle.register.proofs.Keeping.{refused_keeps, accepted_number}
 use Rattle.planning.specs.declared.Name.{Name}
 use Rattle.planning.specs.declared.State.{State}
-use Rattle.planning.specs.declared.Reply.{Reply}
 use Rattle.planning.specs.declared.Keeping.{Keeping}
-use Rattle.planning.specs.declared.Keeping.TheVariants.{Refused as NotKept, Again, Anew}
 use Rattle.planning.specs.declared.Returning.{Returning}
-use Rattle.planning.specs.declared.Returning.TheVariants.{Refused as NoReturn, To}
 use Rattle.planning.specs.Names.{place_limit, distinct}
-use Rattle.planning.specs.State.{Sized, balance_at, kept_sound, sound_state}
-use Rattle.planning.specs.Calls.{place_in, with_current, with_kept, keep_reply, back_reply}
-use Rattle.planning.specs.Decision.{keepDecision, backDecision, keepAs, back_as}
-use Rattle.planning.proofs.Replying.{standing, keep-decided, back-decided}
+use Rattle.planning.specs.State.{Sized, kept_sound, sound_state}
+use Rattle.planning.specs.Calls.{place_in, with_current, keep_reply, back_reply}
+use Rattle.planning.specs.Decision.{keep_decision, back_decision, keep_as, back_as}
+use Rattle.planning.proofs.Replying.{standing}
+use Rattle.planning.proofs.Deciding.{keep_decided, back_decided}
 use Rattle.planning.proofs.Promises.{keep_keeps, back_keeps}
-use Rattle.requests.specs.Requests.{Request, ask, keep, back, state_after}
+use Rattle.requests.specs.Requests.{ask, state_after}
 use Rattle.listing.specs.Listing.{call_text, accepted_text}
-use Rattle.listing.proofs.Calling.{told}
-use Rattle.report.specs.Lines.{call_refused, callKept, callBack}
-use Rattle.replay.specs.Page.{kept_text, back_text, reply_text}
+use Rattle.report.specs.Lines.{call_refused}
 
 -- What holds of the state in the loop beside its replies: what the two tests for 0 gave still holds, and its arrays are whole.
 pub record Tested (test whole : Bool) (st : State) : Type 0 where
@@ -62,14 +55,14 @@ module _ (test whole : Bool) (st : State) (t : Tested test whole st) where
   tested_keep n next e b l m =
       record {
         balance = t.balance ∙ ap (λ (x : Balance). sound (view_of x)) (sym b);
-        state = t.state ∙ sym (keep_keeps st n t.sized) ∙ ap sound_state (sym e);
+        state = t.state ∙ sym (keep_keeps st n (record { names = t.sized.names; kept = t.sized.kept })) ∙ ap sound_state (sym e);
         sized = record { names = l ∙ t.sized.names; kept = m ∙ t.sized.kept };
       }
 
   -- Going back takes a sound state to a sound one.
   pub tested_back : (n : Name) (b : Balance) → with_current st b ≡ (back_reply st n).state → sound_state st ≡ true → Tested test whole (with_current st b)
   tested_back n b e s =
-      let next : sound_state (with_current st b) ≡ sound_state st = ap sound_state e ∙ back_keeps st n t.sized in
+      let next : sound_state (with_current st b) ≡ sound_state st = ap sound_state e ∙ back_keeps st n (record { names = t.sized.names; kept = t.sized.kept }) in
       record {
         balance = t.balance ∙ (standing st s).current ∙ sym (standing (with_current st b) (next ∙ s)).current;
         state = t.state ∙ sym next;
@@ -77,19 +70,19 @@ module _ (test whole : Bool) (st : State) (t : Tested test whole st) where
       }
 
   -- What was decided on a keeping, or a return, is the decision on the state.
-  pub kept_decision : (n : Name) (d x : Keeping) → d ≡ keepDecision whole (place_in st n) st.count → d ≡ x
-      → keepDecision (sound_state st) (place_in st n) st.count ≡ x
-  kept_decision n d x e q = ap (λ (u : Bool). keepDecision u (place_in st n) st.count) (sym t.state) ∙ sym e ∙ q
+  pub kept_decision : (n : Name) (d x : Keeping) → d ≡ keep_decision whole (place_in st n) st.count → d ≡ x
+      → keep_decision (sound_state st) (place_in st n) st.count ≡ x
+  kept_decision n d x e q = ap (λ (u : Bool). keep_decision u (place_in st n) st.count) (sym t.state) ∙ sym e ∙ q
 
-  pub back_decision : (n : Name) (d x : Returning) → d ≡ backDecision whole (place_in st n) → d ≡ x → backDecision (sound_state st) (place_in st n) ≡ x
-  back_decision n d x e q = ap (λ (u : Bool). backDecision u (place_in st n)) (sym t.state) ∙ sym e ∙ q
+  pub returned_decision : (n : Name) (d x : Returning) → d ≡ back_decision whole (place_in st n) → d ≡ x → back_decision (sound_state st) (place_in st n) ≡ x
+  returned_decision n d x e q = ap (λ (u : Bool). back_decision u (place_in st n)) (sym t.state) ∙ sym e ∙ q
 
   -- The reply by it.
-  pub kept_as : (n : Name) (d x : Keeping) → d ≡ keepDecision whole (place_in st n) st.count → d ≡ x → keepAs st n x ≡ keep_reply st n
-  kept_as n d x e q = ap (keepAs st n) (sym (kept_decision n d x e q)) ∙ sym (keep-decided st n)
+  pub kept_as : (n : Name) (d x : Keeping) → d ≡ keep_decision whole (place_in st n) st.count → d ≡ x → keep_as st n x ≡ keep_reply st n
+  kept_as n d x e q = ap (keep_as st n) (sym (kept_decision n d x e q)) ∙ sym (keep_decided st n)
 
-  pub back_as_lem : (n : Name) (d x : Returning) → d ≡ backDecision whole (place_in st n) → d ≡ x → back_as st x ≡ back_reply st n
-  back_as_lem n d x e q = ap (back_as st) (sym (back_decision n d x e q)) ∙ sym (back-decided st n)
+  pub back_as_lem : (n : Name) (d x : Returning) → d ≡ back_decision whole (place_in st n) → d ≡ x → back_as st x ≡ back_reply st n
+  back_as_lem n d x e q = ap (back_as st) (sym (returned_decision n d x e q)) ∙ sym (back_decided st n)
 
 -- The text of a refused call, and of a keeping and a return by their replies.
 pub refused_text : (k : ℕ) (b : Balance) (c : Call) (a : Answer) (x : ℕ) → a ≡ (call_reply b c).answer → a ≡ Refused x
@@ -98,7 +91,10 @@ refused_text k b c a x e q = ap (λ (y : Answer). call_text k c y (call_reply b 
 
 pub accepted_text_lem : (k : ℕ) (b : Balance) (c : Call) (a : Answer) (n : ℕ) → a ≡ (call_reply b c).answer → a ≡ Accepted → n ≡ call_number b.given c
     → accepted_text k c n ≡ call_text k c (call_reply b c).answer (call_reply b c).number
-accepted_text_lem k b c a n e q m = told k b c Accepted n (sym q ∙ e) m
+accepted_text_lem k b c a n e q m =
+    let given : Accepted ≡ (call_reply b c).answer = sym q ∙ e in
+    subst (λ (x : Answer). accepted_text k c n ≡ call_text k c x (call_reply b c).number) given
+    (ap (accepted_text k c) (m ∙ sym (accepted_number b c (sym given))))
 
 -- A refused call leaves the state.
 pub refused_state : (st : State) (c : Call) (a : Answer) (x : ℕ) → a ≡ (call_reply st.balance c).answer → a ≡ Refused x → st ≡ state_after st (ask c)

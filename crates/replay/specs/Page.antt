@@ -7,17 +7,17 @@ use Rattle.planning.specs.declared.State.{State}
 use Rattle.planning.specs.Calls.{keep_reply, back_reply}
 use Rattle.requests.specs.Requests.{Request, ask, keep, back, state_after, Asking, ends, fails, asks, request_at}
 use Rattle.text.specs.Text.{Written}
-use Rattle.report.specs.Lines.{refused_line, call_refused, callKept, callBack}
+use Rattle.report.specs.Lines.{refused_line, call_refused, call_kept, call_back}
 use Rattle.listing.specs.Listing.{call_text}
 use Rattle.replay.specs.declared.Replayed.{Replayed}
 
 -- The line of a keeping, and of a return, at place k among the records: `kept` or `back`, or `refused` with the refusal.
 abbrev pub kept_text : ℕ → Answer → List ℕ
-kept_text k Accepted = callKept k
+kept_text k Accepted = call_kept k
 kept_text k (Refused x) = call_refused k x
 
 abbrev pub back_text : ℕ → Answer → List ℕ
-back_text k Accepted = callBack k
+back_text k Accepted = call_back k
 back_text k (Refused x) = call_refused k x
 
 -- The text of the reply to a request at place k, on a state.

@@ -1,5 +1,6 @@
 // A journal replayed: its opening, the replies to its records, put page by page into a lent buffer, and the table in the end.
 #![tactic(auto)]
+
 mod opening;
 mod page;
 

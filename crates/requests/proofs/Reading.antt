@@ -1,7 +1,6 @@
 -- The records of a journal, by the tests that reading makes. Assumes nothing.
 use Prim.Native.Nat.{ℕ, ◌+◌, ◌-◌, ◌≤◌, ◌<◌}
 use mathlib.Core.Path.{◌≡◌, sym, ap, ◌∙◌}
-use mathlib.Core.Bool.{Bool, cond}
 use mathlib.Core.List.{List}
 use lib.ListN.{length, get_or, take, drop, length-drop}
 use lib.Seq.{ext_get_or, get_or-take, get_or-drop, length-take-le}
@@ -9,7 +8,6 @@ use native.Mathlib.Omega.{arith}
 use borrow.Author.Tests.{lt-ltb, le-ltb}
 use Rattle.laws.proofs.Arrays.{Filled}
 use Rattle.record.specs.declared.CallAt.{CallAt}
-use Rattle.record.specs.declared.CallAt.TheVariants.{End as noCall, Fails as failing, Asks}
 use Rattle.record.specs.Bytes.{bits8}
 use Rattle.record.specs.Calls.{call_at}
 use Rattle.planning.specs.declared.Name.{Name}

@@ -18,8 +18,8 @@ abbrev pub own_mark : ℕ → ℕ → OwnMark
 own_mark a b = cond (spells a b 75 80) Kp (cond (spells a b 71 66) Gb None)
 
 -- The mark of a journal alone at an offset: two bytes that are one.
-abbrev pub field_own : List ℕ → ℕ → OwnMark
-field_own s at = cond (ltb (length s - at) 2) None (own_mark (bits8 s at) (bits8 s (at + 1)))
+abbrev pub own_at : List ℕ → ℕ → OwnMark
+own_at s at = cond (ltb (length s - at) 2) None (own_mark (bits8 s at) (bits8 s (at + 1)))
 
 -- The name at an offset: the eight bytes from there on.
 abbrev pub name_at : List ℕ → ℕ → Name
@@ -36,7 +36,7 @@ own_marked Gb s at n = whole_record s at 10 (λ to. Returns to)
 own_marked None s at n = Fails n
 
 abbrev pub own_record : List ℕ → ℕ → ℕ → RecordAt
-own_record s at n = own_marked (field_own s at) s at n
+own_record s at n = own_marked (own_at s at) s at n
 
 -- What stands at an offset after the description: a call of a book, or a record that those calls do not know.
 abbrev pub besides : CallAt → List ℕ → ℕ → RecordAt

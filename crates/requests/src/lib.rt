@@ -1,5 +1,6 @@
 // The records of a journal after its description: the calls of a book, and those of a journal alone.
 #![tactic(auto)]
+
 mod records;
 
 pub use records::{name_at, own_at, record_at};
