@@ -1,5 +1,6 @@
 // The program `journal`: a journal on standard input, the replies to its records and the table in the end on standard output.
 #![tactic(auto)]
+
 use libc::{STDIN_FILENO, STDOUT_FILENO};
 
 fn main() {

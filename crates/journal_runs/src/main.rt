@@ -1,5 +1,6 @@
 // Runs each journal that an argument names through the function of `journal`, and prints its name and what is printed for it.
 #![tactic(auto)]
+
 use libc::STDOUT_FILENO;
 
 // What is printed for the journal that a file holds.

@@ -1,5 +1,6 @@
 // Writing: what cannot be written is said on standard error.
 #![tactic(auto)]
+
 mod journals;
 
 pub use journals::put_journal;
