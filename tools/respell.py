@@ -1,7 +1,7 @@
 #!/usr/bin/env python3
 """Respells this repository's own definitions and lemmas, and the pages and must-fail edits that name them.
 
-usage: python3 tools/respell.py    at the top of a checkout in which /opt/rattle/port/port.py has just run, once
+usage: python3 tools/respell.py    at the top of a checkout in which the port.py of the kit has just run, once
 
 A definition or lemma of specs/ or proofs/ gets the spelling of today's library: words in snake case, no dash between them. A lemma whose
 name falls together with a definition's, a field's or a function's gets `_lem`. Functions of src/, strings, inputs and outputs stay.

@@ -1,4 +1,4 @@
-//! What `balance` and `journal` cannot write is said on standard error. Both have to be built before.
+//! What `balance` and `journal` cannot write ends them with status 1 and a line on standard error. Both have to be built before.
 
 use std::path::{Path, PathBuf};
 use std::process::{Command, Output};
@@ -34,16 +34,18 @@ const INPUTS: [(&str, &str); 2] = [
 #[test]
 fn a_full_disk_is_said() {
     for (program, input) in INPUTS {
-        let said = said(&run(program, input, "> /dev/full"));
-        assert!(said.starts_with(&format!("{program}: standard output: ")));
+        let output = run(program, input, "> /dev/full");
+        assert_eq!(output.status.code(), Some(1));
+        assert!(said(&output).contains("No space left on device"));
     }
 }
 
 #[test]
 fn a_closed_output_is_said() {
     for (program, input) in INPUTS {
-        let said = said(&run(program, input, ">&-"));
-        assert!(said.starts_with(&format!("{program}: standard output: ")));
+        let output = run(program, input, ">&-");
+        assert_eq!(output.status.code(), Some(1));
+        assert!(said(&output).contains("Bad file descriptor"));
     }
 }
 
@@ -51,6 +53,7 @@ fn a_closed_output_is_said() {
 fn nothing_is_said_of_an_output_that_takes_all() {
     for (program, input) in INPUTS {
         let output = run(program, input, "");
+        assert!(output.status.success());
         assert!(output.stderr.is_empty());
         assert!(!output.stdout.is_empty());
     }
