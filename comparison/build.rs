@@ -1,4 +1,4 @@
-//! Links the proved libraries, static archives built from `../crates/dashboard` and `../crates/planning_times`.
+//! Links the proved libraries, static archives built from `../crates/dashboard_c` and `../crates/planning_times_c`.
 
 use std::path::Path;
 

@@ -23,7 +23,8 @@ def read(path):
 
 
 def plain(word):
-    return re.sub(r"[_-]", "", word).lower() if word and (word[0].isalpha() or word[0] == "_") and re.match(r"[\w'-]+$", word) else word
+    turned = re.sub(r"[_-]", "", word).lower()
+    return turned if turned and re.match(r"[\w'-]+$", word) and not word[0].isdigit() else word
 
 
 def without_imports(text):
@@ -63,10 +64,11 @@ def compare_files(old, new, folder, ones, passages):
 
 
 FUNCTION = re.compile(r'(?ms)^\s*(?:pub(?:\(crate\))? )?(?:const )?(?:extern "C" )?fn (\w+)(.*?)^\s*\{\s*$')
-CLAUSE = re.compile(r"(?m)^\s*(requires|ensures)(?: \w+)? \{ (.*?) \}\s*$")
+CLAUSE = re.compile(r"(?ms)^\s*(requires|ensures)(?: \w+)? \{\s(.*?)\s\}\s*$")
 
 
 def clause(text):
+    text = " ".join(text.split())
     m = re.match(r"λ (\w+)\. ⌜ (.*) ⌝$", text)
     if m:
         text = re.sub(r"(?<![\w.·'-])" + m.group(1) + r"(?![\w'])", "result", m.group(2))

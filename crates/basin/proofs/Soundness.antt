@@ -70,7 +70,7 @@ TitleSound units aquifers (ReturningWithdrawal a u r v) = Exists aquifers a × E
 
 -- A title in force is sound.
 pub record PlaceSound (units aquifers : ℕ) (p : Place) : Type 0 where
-  pub in_force_lem : p.in_force ≡ true → TitleSound units aquifers p.title
+  pub in_force : p.in_force ≡ true → TitleSound units aquifers p.title
 
 -- The titles in force do not together exceed the entries of the unit at index j.
 pub record UnitCovered (v : View) (j : ℕ) : Type 0 where
@@ -253,12 +253,12 @@ sound_title_lem units aquifers (ReturningWithdrawal a u r v) f = exist_all aquif
 
 pub place_sound : (units aquifers : ℕ) (p : Place) → Sound.sound_place units aquifers p ≡ true → PlaceSound units aquifers p
 place_sound units aquifers p e =
-    record { in_force_lem = λ q. title_sound_lem units aquifers p.title (rw q at e) }
+    record { in_force = λ q. title_sound_lem units aquifers p.title (rw q at e) }
 
 pub sound_place_lem : (units aquifers : ℕ) (p : Place) → PlaceSound units aquifers p → Sound.sound_place units aquifers p ≡ true
 sound_place_lem units aquifers p f =
     by_bool p.in_force
-    (λ q. second_holds (not p.in_force) _ (sound_title_lem units aquifers p.title (f.in_force_lem q)))
+    (λ q. second_holds (not p.in_force) _ (sound_title_lem units aquifers p.title (f.in_force q)))
     (λ q. first_holds (not p.in_force) _ (ap not q))
 
 -- What titles add together.

@@ -5,15 +5,12 @@ use std::io::{Read, Write};
 use std::rt::Files;
 use std::{env, fs, io};
 
-// How much is read of a book: one byte more than a book may have.
-const MOST: u64 = 65537;
-
 // What is printed for a book.
-fn print(rt: &(impl Print + Alloc), from: impl Read + Drop) -> io::Result<()> {
-    let mut book = Vec::new(rt.alloc());
-    from.take(MOST).read_to_end(&mut book)?;
+fn print(rt: &impl Print, mut from: impl Read + Drop) -> io::Result<()> {
+    let mut book = [0u8; 65537];
+    let n = input::read_full(&mut from, &mut book)?;
     let mut out = [0u8; report::ROOM];
-    let m = listing::print_book(&book, &mut out);
+    let m = listing::print_book(&book[..n], &mut out);
     io::writer(rt).write_all(&out[..m])
 }
 

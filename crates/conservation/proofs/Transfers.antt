@@ -100,7 +100,7 @@ module _ (units aquifers : ℕ) (t : Tally) (s : (k : ℕ) → k < t.last → Pl
       sum_swap count t.last (λ j k. only naturals (t.place k).in_force (adds (t.place k).title (t.place k).back i j))
       ∙ sum_same naturals t.last _ _ (λ k h.
       sum_only (t.place k).in_force count (adds (t.place k).title (t.place k).back i)
-      ∙ only_same (t.place k).in_force _ _ (λ q. f k ((s k h).in_force_lem q)))
+      ∙ only_same (t.place k).in_force _ _ (λ q. f k ((s k h).in_force q)))
 
   -- What the titles import together is what they export together and what they bring from aquifers.
   pub transfers_balance : sum_of naturals units (added t Imports) ≡ sum_of naturals units (added t Exports) + over_titles t (λ e. brought_by e.title)

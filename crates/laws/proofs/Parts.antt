@@ -1,11 +1,11 @@
 -- Integers by their two natural parts, above and below 0, so that `omega` can work with them. Assumes nothing.
---     plus-parts, minus-parts, negate-parts     the parts of a sum, a difference and a negative
---     minus-parts-of                            the same of a number that equals a difference
---     equal-parts, parts-equal                  equality as an equation of parts, and back
---     le_parts, parts-le                        the order ≤ℤ
---     ltZ-false .. parts-negative               the tests lt_z, le_z and non_neg
---     parts-fit                                 what 64 bits hold
---     above-read, below-read                    the parts that the code reads from a signed local
+--     plus_parts, minus_parts, negate_parts     the parts of a sum, a difference and a negative
+--     minus_parts_of                            the same of a number that equals a difference
+--     equal_parts, parts_equal                  equality as an equation of parts, and back
+--     le_parts, parts_le                        the order ≤ℤ
+--     lt_z_false .. parts_negative               the tests lt_z, le_z and non_neg
+--     parts_fit                                 what 64 bits hold
+--     above_read, below_read                    the parts that the code reads from a signed local
 --     Less z a b                                z is a − b: built up over a long sum, and read off at its end
 -- A rule with a premise goes to `omega` by its bare name, `omega (arith, non_neg_true)`; one without wants its arguments.
 use Prim.Native.Nat.{ℕ, zero, suc, ◌+◌, ◌-◌, ◌≤◌, ◌<◌, ◌^◌}

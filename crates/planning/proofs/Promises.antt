@@ -23,7 +23,7 @@ use Rattle.planning.specs.declared.Name.{Name}
 use Rattle.planning.specs.declared.State.{State}
 use Rattle.planning.specs.declared.Reply.{Reply}
 use Rattle.planning.specs.Names.{place_limit, same_name, name_at, place_of, distinct}
-use Rattle.planning.specs.State.{balance_at, kept_sound, sound_state}
+use Rattle.planning.specs.State.{Sized, balance_at, kept_sound, sound_state}
 use Rattle.planning.specs.Calls.{place_in, keep_refusal, back_refusal, keeping, going_back, replied, keep_reply, back_reply, opened_state}
 use Rattle.planning.proofs.Replying.{standing, stands, keep_faulty, keep_again, keep_fifth, keep_new, back_faulty, back_none, back_to, place_within}
 
@@ -40,11 +40,6 @@ none_twice names = refl
 pub opened_sound : (s : List ℕ) → sound_state (opened_state s).state ≡ true
 opened_sound s =
     stands (opened_state s).state (record { current = opening_sound s; few = omega arith; kept = none_sound _; apart = none_twice _ })
-
--- The arrays of a state have their four places, as every state of the program has.
-pub record Sized (s : State) : Type 0 where
-  pub names : length s.names ≡ place_limit
-  pub kept : length s.kept ≡ place_limit
 
 -- A sound balance that is put in a place leaves all in use sound.
 kept_put : (kept : List Balance) (n m k : ℕ) (b : Balance) → k < length kept → sound (view_of b) ≡ true → kept_sound kept n ≡ true

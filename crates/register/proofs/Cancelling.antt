@@ -46,7 +46,7 @@ module _ (v : View) (n : ℕ) (s : Soundness v) (f : InForce v n) where
   names : Names v.units v.aquifers (postings (title_of v n) (return_of (title_of v n)))
   names =
       names_sound v.units v.aquifers (title_of v n)
-      ((s.place (pred n) (omega (arith, f.given.positive, f.given.within))).in_force_lem f.stands)
+      ((s.place (pred n) (omega (arith, f.given.positive, f.given.within))).in_force f.stands)
 
   holds : (slot : Slot) (j entry : ℕ) → titled v v.given slot j ≤ entry → adds (title_of v n) (return_of (title_of v n)) slot j ≤ held entry
   holds slot j entry h = omega (arith, one_less v n f slot j)

@@ -64,7 +64,7 @@ cancelled_ready v n s = ready_of (cancelled v n) s.few_units (λ k h. unit_lower
 place_left : (v : View) (n : ℕ) → Soundness v → (k : ℕ) → k < v.given → PlaceSound v.units v.aquifers ((cancelled v n).place k)
 place_left v n s k h =
     by_eq k (pred n)
-    (λ e. rw (eq-eqb k (pred n) e) (record { in_force_lem = λ q. absurd (true≢false (sym q)) }))
+    (λ e. rw (eq-eqb k (pred n) e) (record { in_force = λ q. absurd (true≢false (sym q)) }))
     (λ e. rw (ne_eqb k (pred n) e) (s.place k h))
 
 -- A sound view stays sound without a title, where no flow is negative without it.

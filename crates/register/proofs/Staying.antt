@@ -99,7 +99,7 @@ module _ (v : View) (t : Title) (s : Soundness v) (g : Granting v t) where
   place_stays : (k : ℕ) → k < suc v.given → PlaceSound v.units v.aquifers ((granted v t).place k)
   place_stays k h =
       by_eq k v.given
-      (λ e. rw (eq-eqb k v.given e) (record { in_force_lem = λ q. g.titled }))
+      (λ e. rw (eq-eqb k v.given e) (record { in_force = λ q. g.titled }))
       (λ e. rw (ne_eqb k v.given e) (s.place k (omega arith)))
 
   granted_soundness : ((j : ℕ) → j < v.units → non_neg (flow (granted v t) j) ≡ true) → Soundness (granted v t)

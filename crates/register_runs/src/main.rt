@@ -16,7 +16,7 @@ mod states;
 
 use model::Balance;
 use planning::State;
-use std::io::{BufWriter, Read, Write};
+use std::io::{BufWriter, Write};
 use std::rt::Files;
 use std::{fs, io};
 
@@ -37,22 +37,7 @@ fn read(rt: &impl Files, name: &str, bytes: &mut [u8; ROOM]) -> io::Result<usize
     ensures { ReadsAtMost result bytes.new }
 {
     let mut from = fs::open(rt, name)?;
-    read_full(&mut from, bytes)
-}
-
-// Reads until the buffer is full or nothing is left, and answers how many bytes were read.
-fn read_full(from: &mut impl Read, bytes: &mut [u8]) -> io::Result<usize>
-    ensures { ReadsAtMost result bytes.new }
-{
-    let mut n = 0;
-    while n < bytes.len() {
-        let more = from.read(&mut bytes[n..])?;
-        if more == 0 {
-            break;
-        }
-        n += more;
-    }
-    Ok(n)
+    input::read_full(&mut from, bytes)
 }
 
 fn main(rt: HostRuntime) -> io::Result<()> {

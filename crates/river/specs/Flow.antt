@@ -33,7 +33,7 @@ abbrev pub part : Bool → Unit → ℕ
 part true u = loss u
 part false u = gain u
 
--- All that is lost, or gained, at a unit and above it. Flow is what is gained there less what is lost (laws, flow-parts).
+-- All that is lost, or gained, at a unit and above it. Flow is what is gained there less what is lost (laws, flow_parts).
 unfoldable pub gathered : View → Bool → ℕ → ℕ
 gathered v lost j = gather naturals (downstream v) (λ k. part lost (v.unit k)) j
 

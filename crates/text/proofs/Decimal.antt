@@ -38,7 +38,7 @@ more bound n h = rw (le-ltb n 10 h)
 glyph_digit : (d : ℕ) → d < 10 → hex_digit_ascii d ∷ [] ≡ digit d
 glyph_digit d h = rw (lt-ltb d 10 h)
 
--- 10 to the power of one more, and the exponent that `Fewest` has
+-- 10 to the power of one more, and the exponent that `IsDigitCount` has
 tenfold : (k : ℕ) → 10 ^ suc k ≡ 10 * 10 ^ k
 tenfold k = omega (arith, pow-suc 10 k)
 

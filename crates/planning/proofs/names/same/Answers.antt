@@ -10,7 +10,7 @@ pub loop-k-init : goal.loop-k-init
 loop-k-init c = (omega arith, below_none _)
 
 pub returns-then-a-k : goal.returns-then-a-k
-returns-then-a-k c = sym (every_fails _ 8 _ c.loop-k-test.true (ne_eqb _ _ c.if-a-k.true))
+returns-then-a-k c = sym (every_fails _ 8 _ (omega arith) (ne_eqb _ _ c.if-a-k.true))
 
 pub loop-k-preserved : goal.loop-k-preserved
 loop-k-preserved c = (omega arith, below_more _ _ c.loop-k.invariant.1 (eq-eqb _ _ c.if-a-k.false))

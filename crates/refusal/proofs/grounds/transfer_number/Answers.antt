@@ -23,7 +23,9 @@ receiver c = number_exists _ _ (sym c.exists-then-exists.ensures ∙ c.if-exists
 
 pub is_downstream-requires : goal.is_downstream-requires
 is_downstream-requires c =
-    (c.requires, (giver (goal.at.is_downstream-requires c).Then-exists).positive, (giver (goal.at.is_downstream-requires c).Then-exists).within, (receiver c).positive)
+    let g = giver (goal.at.is_downstream-requires c).Then-exists in
+    let r = receiver c in
+    (c.requires, omega (arith, g.positive, r.positive), omega (arith, g.within, r.within), omega (arith, g.positive, r.positive))
 
 pub returns-then-is_downstream : goal.returns-then-is_downstream
 returns-then-is_downstream c =

@@ -1,6 +1,6 @@
 -- What was read is within the buffer, and each turn reads more.
 use Rattle.std.proofs.Common.{length, ◌-◌, ◌≤◌}
-use Rattle.register_runs.proofs.read_full.Given as goal
+use Rattle.input.proofs.read_full.Given as goal
 
 abbrev pub invariant-loop-n : goal.invariant-loop-n
 invariant-loop-n g l = l.n ≤ length l.bytes
