@@ -1,39 +1,33 @@
 // Runs each journal that an argument names through the function of `journal`, and prints its name and what is printed for it.
 #![tactic(auto)]
 
-use libc::STDOUT_FILENO;
+use std::io::Read;
+use std::rt::Files;
+use std::{env, fs, io};
 
-// What is printed for the journal that a file holds.
-fn show(fd: i32) {
-    let mut journal = [0u8; 1048577];
-    let n = io::read_full(fd, &mut journal);
-    output::put_journal(
-        STDOUT_FILENO,
-        b"journal_runs: standard output",
-        &journal[..n],
-    );
+// How much is read of a journal: one byte more than a journal may have.
+const MOST: u64 = 1048577;
+
+// What is printed for a journal.
+fn print(rt: &(impl Print + Alloc), from: impl Read + Drop) -> io::Result<()> {
+    let mut journal = Vec::new(rt.alloc());
+    from.take(MOST).read_to_end(&mut journal)?;
+    let mut out = [0u8; report::ROOM];
+    output::put_journal(&mut io::writer(rt), &journal, &mut out)
 }
 
 // One journal: a line with its name, then what is printed for it.
-fn run(i: usize) {
-    let mut path = io::buffer();
-    let length = os::arg(i, &mut path);
-    io::write_all(STDOUT_FILENO, &path[..length]);
-    io::write_all(STDOUT_FILENO, b"\n");
-    let fd = os::open_read(&path[..length]);
-    if fd < 0 {
-        os::fail(&path[..length]);
-        return;
+fn run(rt: &(impl Files + Print + Eprint + Alloc), path: &str) -> io::Result<()> {
+    println!(rt; "{path}")?;
+    match fs::open(rt, path) {
+        Ok(from) => print(rt, from),
+        Err(error) => eprintln!(rt; "{path}: {error}"),
     }
-    show(fd);
-    libc::close(fd);
 }
 
-fn main() {
-    let count = os::arg_count();
-    let mut i = 1;
-    while i < count {
-        run(i);
-        i += 1;
+fn main(rt: HostRuntime) -> io::Result<()> {
+    for path in env::args(&rt)?.skip(1) {
+        run(&rt, path.as_str())?;
     }
+    Ok(())
 }

@@ -1,3 +1,4 @@
 -- The proofs of writing.
-pub mod Turns
 pub mod Buffers
+pub mod Turns
+pub mod Putting

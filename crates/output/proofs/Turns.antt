@@ -1,14 +1,14 @@
 -- The loop that writes the pages of a journal: the places of its records stay small, and it ends. Assumes nothing.
 use Prim.Native.Nat.{ℕ, suc, ◌+◌, ◌-◌, ◌*◌, ◌≤◌, ◌<◌}
-use mathlib.Core.Path.{◌≡◌, sym, ap, subst⁻¹, ◌∙◌}
-use mathlib.Core.Bool.{Bool, true, false, cond}
+use mathlib.Core.Path.{◌≡◌, sym, ◌∙◌}
+use mathlib.Core.Bool.{Bool, true, cond}
 use mathlib.Core.List.{List}
 use lib.ListN.{length}
 use native.Mathlib.Omega.{arith}
 use Rattle.laws.proofs.Cases.{by_bool, by_lt}
 use Rattle.planning.specs.declared.State.{State}
 use Rattle.replay.specs.declared.Replayed.{Replayed}
-use Rattle.replay.specs.Page.{Page, page_limit, page_of, Replied}
+use Rattle.replay.specs.Page.{page_limit, page_of, Replied}
 use Rattle.replay.specs.Journal.{journal_limit, begun}
 use Rattle.replay.proofs.Ending.{begun_short}
 use Rattle.transcript.proofs.Pages.{GoesOn, page_onward}

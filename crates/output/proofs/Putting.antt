@@ -1,0 +1,96 @@
+-- What was written of a journal, and what is left to write, are all that is printed for it. Assumes nothing.
+use Prim.Native.Nat.{ℕ, ◌+◌}
+use mathlib.Core.Path.{◌≡◌, refl, sym, ap, subst, ◌∙◌}
+use mathlib.Core.Bool.{Bool, true, false, cond}
+use mathlib.Core.List.{List, [], ◌++◌, append_assoc}
+use lib.ListN.{length, take}
+use native.Mathlib.Omega.{arith}
+use Rattle.std.specs.declared.option.Option.{Option}
+use Rattle.std.specs.Io.KnownBytes.{Appends}
+use Rattle.std.proofs.KnownBytes.{Appends-nil, Appends-trans}
+use Rattle.model.specs.View.{view_of}
+use Rattle.planning.specs.declared.State.{State}
+use Rattle.text.specs.Text.{Written}
+use Rattle.text.proofs.Writing.{front}
+use Rattle.listing.specs.Listing.{table_text}
+use Rattle.replay.specs.declared.Replayed.{Replayed}
+use Rattle.replay.specs.Page.{Page, joined, onward, page_limit, page_of, Replied}
+use Rattle.replay.specs.Journal.{begun, replies_text, journal_text}
+use Rattle.transcript.proofs.Pages.{pages_join, enough_records}
+use Rattle.transcript.proofs.Whole.{whole_text}
+use Rattle.output.specs.Left.{left_text}
+
+-- Records and then others are printed one after the other.
+onward_by : (t : Bool) (p q : Page) → replies_text (cond t (joined p q) p) ≡ p.text ++ cond t (replies_text q) (table_text (view_of p.state.balance))
+onward_by true p q = append_assoc p.text q.text (table_text (view_of q.state.balance))
+onward_by false p q = refl
+
+onward_text : (p q : Page) → replies_text (onward p q) ≡ p.text ++ cond p.more (replies_text q) (table_text (view_of p.state.balance))
+onward_text p q = onward_by p.more p q
+
+-- How a journal begins, and what is then left.
+begun_text : (s : List ℕ) → (begun s).text ++ left_text s (begun s).next 1 (begun s).state (begun s).more ≡ journal_text s
+begun_text s = sym (onward_text (begun s) (page_of (length s + 1) 1 (begun s).state s (begun s).next)) ∙ sym (whole_text s)
+
+-- A page, and what is then left.
+page_text : (s : List ℕ) (at k : ℕ) (st : State) (p : Page) → p ≡ page_of page_limit k st s at
+    → p.text ++ left_text s p.next (k + p.count) p.state p.more ≡ replies_text (page_of (length s + 1) k st s at)
+page_text s at k st p e =
+    let q = page_of page_limit k st s at in
+    let many : page_limit + (length s + 1) ≡ length s + 1 + page_limit = omega arith in
+    ap (λ (x : Page). x.text ++ left_text s x.next (k + x.count) x.state x.more) e
+    ∙ sym (onward_text q (page_of (length s + 1) (k + q.count) q.state s q.next))
+    ∙ ap replies_text
+    (sym (pages_join page_limit (length s + 1) k st s at)
+    ∙ ap (λ (n : ℕ). page_of n k st s at) many
+    ∙ enough_records s page_limit k st at)
+
+-- What is left after records, by what the code hands back.
+left_so : (s : List ℕ) (k : ℕ) (p : Page) {old new : List ℕ} (r : Replayed) → Replied p old new r
+    → left_text s r.next (k + r.count) r.state r.more ≡ left_text s p.next (k + p.count) p.state p.more
+left_so s k p r w = λ j. left_text s (w.next j) (k + w.count j) (w.state j) (w.more j)
+
+-- The beginning is written, and what is then left: that is all.
+pub journal_put : (s : List ℕ) {buffer out : List ℕ} (r : Replayed) (old mid now : Option (List ℕ)) → Replied (begun s) buffer out r
+    → Appends old mid (take r.length out) → Appends mid now (left_text s r.next 1 r.state r.more) → Appends old now (journal_text s)
+journal_put s r old mid now w a b =
+    let p = begun s in
+    subst (Appends old now)
+    (ap (λ (l : List ℕ). p.text ++ l) (λ j. left_text s (w.next j) 1 (w.state j) (w.more j)) ∙ begun_text s)
+    (Appends-trans old mid now p.text (left_text s r.next 1 r.state r.more) (subst (Appends old mid) (front w.text) a) b)
+
+-- What was written so far, and that with what is left it is all.
+pub record Putting (s all : List ℕ) (old now : Option (List ℕ)) (at k : ℕ) (st : State) (more : Bool) : Type 0 where
+  pub text : List ℕ
+  pub appended : Appends old now text
+  pub whole : text ++ left_text s at k st more ≡ all
+
+pub putting_start : (s : List ℕ) (old : Option (List ℕ)) (at k : ℕ) (st : State) (more : Bool)
+    → Putting s (left_text s at k st more) old old at k st more
+putting_start s old at k st more = record { text = []; appended = Appends-nil old; whole = refl }
+
+module _ (s all : List ℕ) (at k : ℕ) (st : State) (more : Bool) (old mid now : Option (List ℕ)) (g : Putting s all old mid at k st more) where
+  -- A page more is written.
+  pub putting_on : more ≡ true → {buffer out : List ℕ} (r : Replayed) → Replied (page_of page_limit k st s at) buffer out r
+      → Appends mid now (take r.length out) → Putting s all old now r.next (k + r.count) r.state r.more
+  putting_on on r w a =
+      let p = page_of page_limit k st s at in
+      record {
+        text = g.text ++ p.text;
+        appended = Appends-trans old mid now g.text p.text g.appended (subst (Appends mid now) (front w.text) a);
+        whole =
+            append_assoc g.text p.text (left_text s r.next (k + r.count) r.state r.more)
+            ∙ ap (λ (l : List ℕ). g.text ++ (p.text ++ l)) (left_so s k p r w)
+            ∙ ap (λ (l : List ℕ). g.text ++ l) (page_text s at k st p refl)
+            ∙ ap (λ (t : Bool). g.text ++ left_text s at k st t) (sym on)
+            ∙ g.whole;
+      }
+
+  -- The table is written, and that is all.
+  pub putting_end : more ≡ false → {m n : ℕ} {buffer out : List ℕ} → Written m buffer 0 (table_text (view_of st.balance)) out n
+      → Appends mid now (take n out) → Appends old now all
+  putting_end off w a =
+      let table = table_text (view_of st.balance) in
+      subst (Appends old now)
+      (ap (λ (t : Bool). g.text ++ left_text s at k st t) (sym off) ∙ g.whole)
+      (Appends-trans old mid now g.text table g.appended (subst (Appends mid now) (front w) a))

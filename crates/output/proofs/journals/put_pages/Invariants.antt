@@ -1,0 +1,15 @@
+-- What was written and what is left are all that there was to write, and the places of the records stay small. Assumes nothing.
+use Rattle.output.specs.Left.{left_text}
+use Rattle.output.proofs.Putting.{Putting}
+use Rattle.output.proofs.Turns.{Turn, left}
+use Rattle.output.proofs.journals.put_pages.Given as goal
+
+abbrev pub invariant-loop-more : goal.invariant-loop-more
+invariant-loop-more g l =
+    record {
+      put : Putting l.s (left_text l.s l.fn.begun.next 1 l.fn.begun.state l.fn.begun.more) (g.W.Write.contents l.initial.to) (g.W.Write.contents l.to) l.at l.k l.st l.more;
+      turn : Turn l.s l.at l.k l.more;
+    }
+
+abbrev pub decreases-loop-more : goal.decreases-loop-more
+decreases-loop-more g l = left l.s l.at l.more

@@ -1,0 +1,2 @@
+-- What is left to write of a journal.
+pub mod Left
