@@ -5,15 +5,12 @@ use std::io::Read;
 use std::rt::Files;
 use std::{env, fs, io};
 
-// How much is read of a journal: one byte more than a journal may have.
-const MOST: u64 = 1048577;
-
 // What is printed for a journal.
-fn print(rt: &(impl Print + Alloc), from: impl Read + Drop) -> io::Result<()> {
-    let mut journal = Vec::new(rt.alloc());
-    from.take(MOST).read_to_end(&mut journal)?;
+fn print(rt: &impl Print, mut from: impl Read + Drop) -> io::Result<()> {
+    let mut journal = [0u8; 1048577];
+    let n = input::read_full(&mut from, &mut journal)?;
     let mut out = [0u8; report::ROOM];
-    output::put_journal(&mut io::writer(rt), &journal, &mut out)
+    output::put_journal(&mut io::writer(rt), &journal[..n], &mut out)
 }
 
 // One journal: a line with its name, then what is printed for it.
