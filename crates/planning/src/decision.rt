@@ -9,20 +9,18 @@ use crate::{Keeping, Name, Returning, State};
 use model::{Balance, Found};
 
 // Two arrays have their four places.
-fn lengths(names: [Name; State::PLACES], kept: [Balance; State::PLACES]) -> bool
+fn lengths(names: [Name; State::PLACES], kept: [Balance; State::PLACES])
     ensures names { length names ≡ named.place_limit }
     ensures kept { length kept ≡ named.place_limit }
-{
-    true
-}
+{}
 
-// The arrays of a state have their four places.
-pub fn sized(s: State) -> bool
+// The arrays of a state have their four places. A caller's proof takes this from the call; nothing is answered.
+pub fn sized(s: State)
     ensures { Sized s }
 {
     let names = s.names;
     let kept = s.kept;
-    lengths(names, kept)
+    lengths(names, kept);
 }
 
 // Keeping: refused with 0 or 22, in the place that has the name, or in the next one. `sound` says what the test for 0 gave.

@@ -47,7 +47,7 @@ fn replies(
     requires { most ≤ pages.page_limit }
     ensures { pages.Replied (pages.page_of most first state s.now from) out.old out.new result }
 {
-    let _ = planning::decision::sized(state);
+    planning::decision::sized(state);
     let whole = planning::sound(state);
     let mut st = state;
     let mut b = state.balance;

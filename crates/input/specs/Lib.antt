@@ -1,0 +1,2 @@
+-- What is read into a buffer.
+pub mod Filling
