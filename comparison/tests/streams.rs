@@ -1,7 +1,12 @@
-//! What `balance` and `journal` cannot write ends them with status 1 and a line on standard error. Both have to be built before.
+//! What `balance` and `journal` cannot read or write ends them with status 1 and a line on standard error, and what comes in pieces is read
+//! whole. Both have to be built before.
 
+use std::fs;
+use std::io::Write;
 use std::path::{Path, PathBuf};
-use std::process::{Command, Output};
+use std::process::{Command, Output, Stdio};
+use std::thread;
+use std::time::Duration;
 
 /// A file of the repository.
 fn file(name: &str) -> PathBuf {
@@ -56,5 +61,35 @@ fn nothing_is_said_of_an_output_that_takes_all() {
         assert!(output.status.success());
         assert!(output.stderr.is_empty());
         assert!(!output.stdout.is_empty());
+    }
+}
+
+#[test]
+fn an_input_that_cannot_be_read_is_said() {
+    for (program, _) in INPUTS {
+        let output = run(program, "examples", "");
+        assert_eq!(output.status.code(), Some(1));
+        assert!(said(&output).contains("Is a directory"));
+        assert!(output.stdout.is_empty());
+    }
+}
+
+#[test]
+fn an_input_in_pieces_is_read_whole() {
+    for (program, input) in INPUTS {
+        let mut child = Command::new(file("target/bin").join(program))
+            .stdin(Stdio::piped())
+            .stdout(Stdio::piped())
+            .spawn()
+            .expect("the program runs");
+        let mut pieces = child.stdin.take().expect("it has an input");
+        for piece in fs::read(file(input)).expect("a sample").chunks(100) {
+            pieces.write_all(piece).expect("it reads");
+            thread::sleep(Duration::from_millis(2));
+        }
+        drop(pieces);
+        let output = child.wait_with_output().expect("it ends");
+        assert!(output.status.success());
+        assert_eq!(output.stdout, run(program, input, "").stdout);
     }
 }
