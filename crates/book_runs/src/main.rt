@@ -1,9 +1,10 @@
 // Runs each book that an argument names through the function of `balance`, and prints its name and what is printed for it.
 #![tactic(auto)]
 
+use std::env::{Env, FillError};
 use std::io::{Read, Write};
 use std::rt::Files;
-use std::{env, fs, io};
+use std::{fs, io, str};
 
 // What is printed for a book.
 fn print(rt: &impl Print, mut from: impl Read + Drop) -> io::Result<()> {
@@ -15,7 +16,10 @@ fn print(rt: &impl Print, mut from: impl Read + Drop) -> io::Result<()> {
 }
 
 // One book: a line with its name, then what is printed for it.
-fn run(rt: &(impl Files + Print + Eprint + Alloc), path: &str) -> io::Result<()> {
+fn run(rt: &(impl Files + Print + Eprint), name: &[u8]) -> io::Result<()> {
+    let Ok(path) = str::from_utf8(name) else {
+        return Err(io::Error::from(io::ErrorKind::InvalidData));
+    };
     println!(rt; "{path}")?;
     match fs::open(rt, path) {
         Ok(from) => print(rt, from),
@@ -24,8 +28,13 @@ fn run(rt: &(impl Files + Print + Eprint + Alloc), path: &str) -> io::Result<()>
 }
 
 fn main(rt: HostRuntime) -> io::Result<()> {
-    for path in env::args(&rt)?.skip(1) {
-        run(&rt, path.as_str())?;
+    let mut name = [0u8; 4096];
+    for i in 1..usize::MAX {
+        match rt.arg(i, &mut name) {
+            Ok(n) => run(&rt, &name[..n])?,
+            Err(FillError::NotPresent) => break,
+            Err(FillError::TooLong) => return Err(io::Error::from(io::ErrorKind::InvalidInput)),
+        }
     }
     Ok(())
 }

@@ -16,7 +16,6 @@ mod states;
 
 use model::Balance;
 use planning::State;
-use std::io::{BufWriter, Write};
 use std::rt::Files;
 use std::{fs, io};
 
@@ -41,13 +40,12 @@ fn read(rt: &impl Files, name: &str, bytes: &mut [u8; ROOM]) -> io::Result<usize
 }
 
 fn main(rt: HostRuntime) -> io::Result<()> {
-    let mut out = BufWriter::new(rt.alloc(), io::writer(&rt))?;
+    let mut out = io::writer(&rt);
     let mut bytes = [0u8; ROOM];
     let n = read(&rt, "broken-base", &mut bytes)?;
     let base = balance_of(&bytes[..n]);
     let m = read(&rt, "balances", &mut bytes)?;
     line::run(&mut out, base, &bytes[..m])?;
     let k = read(&rt, "states", &mut bytes)?;
-    states::run(&mut out, State::nothing_kept(base), &bytes[..k])?;
-    out.flush()
+    states::run(&mut out, State::nothing_kept(base), &bytes[..k])
 }
