@@ -8,21 +8,14 @@ ghost use Rattle.laws.specs.Signed as parts;
 pub fn above(z: i64) -> u64
     ensures { result ≡ parts.above z }
 {
-    if z < 0 {
-        return 0;
-    }
-    z as u64
+    z.max(0).unsigned_abs()
 }
 
 // How far z lies below 0.
 pub fn below(z: i64) -> u64
     ensures { result ≡ parts.below z }
 {
-    if z < 0 {
-        let rest = -1 - z;
-        return (rest as u64) + 1;
-    }
-    0
+    z.min(0).unsigned_abs()
 }
 
 // a - b, of numbers that leave room for the sign.
@@ -30,17 +23,14 @@ pub fn difference(a: u64, b: u64) -> i64
     requires { (a < 2 ^ 62) × (b < 2 ^ 62) }
     ensures { result ≡ pos a -ℤ pos b }
 {
-    (a as i64) - (b as i64)
+    a.cast_signed() - b.cast_signed()
 }
 
 // The number that 32 bits hold in two's complement.
 pub fn signed32(n: u32) -> i64
     ensures { result ≡ parts.signed32 n }
 {
-    if n < 2147483648 {
-        return n as i64;
-    }
-    (n as i64) - 4294967296
+    i64::from(n.cast_signed())
 }
 
 // a + b, of numbers that leave room for the sum.
