@@ -1,5 +1,5 @@
 pub mod Table
-pub mod Rain
-pub mod Gauged
+pub mod RainBounds
+pub mod GaugedParts
 pub mod Rounding
 pub mod Record

@@ -1,15 +1,11 @@
 -- Natural runoff of a unit from its soil records and its years, as lists. Assumes nothing.
 use Rattle.std.specs.Prelude.{ℕ, ◌+◌, Bool, true, false, List, [], ◌∷◌, eqb, length, ℤ, pos, ◌+ℤ◌}
 use Rattle.runoff.specs.Soil.{weighted}
-use Rattle.runoff.specs.declared.Measure.{Measure}
+pub use Rattle.runoff.specs.declared.Plot.{Plot}
+pub use Rattle.runoff.specs.declared.Rain.{Rain}
+pub use Rattle.runoff.specs.declared.Gauged.{Gauged}
 use Rattle.runoff.specs.Year.{in_tenths, rain_year, gauged_year}
 use Rattle.runoff.specs.Mean.{natural_runoff}
-
--- A soil record: so many hectares of a cover on a soil.
-pub record Plot : Type 0 where
-  pub cover : ℕ
-  pub soil : ℕ
-  pub hectares : ℕ
 
 -- A is the unit's hectares.
 unfoldable pub area_of : List Plot → ℕ
@@ -20,11 +16,6 @@ area_of (p ∷ ps) = p.hectares + area_of ps
 unfoldable pub weighted_of : List Plot → ℕ
 weighted_of [] = 0
 weighted_of (p ∷ ps) = weighted p.cover p.soil p.hectares + weighted_of ps
-
--- One year's rain as its record gives it: a number, in millimetres of a PR, in tenths of a PD.
-pub record Rain : Type 0 where
-  pub measure : Measure
-  pub depth : ℕ
 
 -- What a year's rain gives on A hectares with the sum S, in 6,000,000,000ths.
 abbrev pub rain_of : ℕ → ℕ → Rain → ℕ
@@ -38,17 +29,6 @@ rain_sum A S (r ∷ years) = rain_of A S r + rain_sum A S years
 -- The natural runoff of a unit with rain years is the mean of its years, rounded once.
 unfoldable pub rain_runoff : List Plot → List Rain → ℕ
 rain_runoff plots years = natural_runoff false (length years) (pos (rain_sum (area_of plots) (weighted_of plots) years))
-
--- The volumes of a gauged year.
-pub record Gauged : Type 0 where
-  pub outflow : ℕ
-  pub inflow : ℕ
-  pub extraction : ℕ
-  pub exports : ℕ
-  pub imports : ℕ
-  pub returns : ℕ
-  pub evaporation : ℕ
-  pub storage : ℤ
 
 -- What a gauged year gives.
 abbrev pub gauged_of : Gauged → ℤ

@@ -1,10 +1,11 @@
-// Natural runoff of a unit (000, appendix A): K by cover and soil, what a rain year and a gauged year give, and their rounded mean.
+// Natural runoff of a unit: K by cover and soil, what a rain year and a gauged year give, and their rounded mean.
 #![tactic(auto)]
 
 ghost use Rattle.std.specs.Prelude.{◌≡◌, ◌-◌, ◌≤◌, ◌<◌};
-ghost use Rattle.runoff.specs.Soil.{Known, Tabled};
-ghost use Rattle.runoff.specs.Year.{in_tenths, RainRange, rain_year, StorageRange, gauged_year};
-ghost use Rattle.runoff.specs.Mean.{Divides, MeanRange, natural_runoff};
+ghost use Rattle.runoff.specs.Soil.{Known, Tabled, weighted};
+ghost use Rattle.runoff.specs.Year as year;
+ghost use Rattle.runoff.specs.Year.{RainRange, StorageRange};
+ghost use Rattle.runoff.specs.Mean.{Divides, MeanRange};
 ghost use Rattle.runoff.specs.Mean as means;
 
 // K in hundredths, a row for each cover from 1 to 14, for soils A, B, C.
@@ -25,30 +26,24 @@ const K: [[u8; 3]; 14] = [
     [18, 24, 30],
 ];
 
-// A byte as a 64-bit number.
-fn wide(x: u8) -> u64
-    ensures { result ≡ x }
-{
-    x as u64
+// A soil record: so many hectares of a cover on a soil.
+// Cover and soil stay numbers: they count the rows and columns of K, and enums of them would only be turned back into numbers.
+#[derive(Clone, Copy)]
+pub struct Plot {
+    pub cover: u8,
+    pub soil: u8,
+    pub hectares: u32,
 }
 
-// K of a cover and a soil.
-pub fn coefficient(cover: u8, soil: u8) -> u64
-    requires { Known cover soil }
-    ensures { Tabled cover soil result }
-{
-    let row = K[(cover as usize) - 1];
-    wide(row[(soil as usize) - 1])
-}
-
-// a - b, or 0 where b is the larger.
-fn over(a: u64, b: u64) -> u64
-    ensures { result ≡ a - b }
-{
-    if a < b {
-        return 0;
+impl Plot {
+    // K of the cover and the soil.
+    pub fn coefficient(self) -> u64
+        requires { Known self.cover self.soil }
+        ensures { Tabled self.cover self.soil result }
+    {
+        let row = K[usize::from(self.cover) - 1];
+        u64::from(row[usize::from(self.soil) - 1])
     }
-    a - b
 }
 
 // In what a record gives a year's rain: PR in millimetres, PD in tenths of a millimetre.
@@ -58,54 +53,75 @@ pub enum Measure {
     Tenths,
 }
 
-// A year's rain in tenths: PR counts as ten times its number.
-pub fn in_tenths(measure: Measure, depth: u32) -> u64
-    ensures { result ≡ in_tenths measure depth }
-{
-    match measure {
-        Measure::Millimetres => 10 * (depth as u64),
-        Measure::Tenths => depth as u64,
+// One year's rain as its record gives it.
+#[derive(Clone, Copy)]
+pub struct Rain {
+    pub measure: Measure,
+    pub depth: u32,
+}
+
+impl Rain {
+    // A year's rain in tenths: PR counts as ten times its number.
+    pub fn in_tenths(self) -> u64
+        ensures { result ≡ year.in_tenths self.measure self.depth }
+    {
+        let depth = u64::from(self.depth);
+        match self.measure {
+            Measure::Millimetres => 10 * depth,
+            Measure::Tenths => depth,
+        }
     }
 }
 
-// A rain year of p tenths gives p × 3 × S × (p − 2500), and where S exceeds 15 × A also p × 40,000 × (S − 15 × A), in
-// 6,000,000,000ths.
-pub fn rain_year(area: u64, weighted: u64, tenths: u64) -> u64
-    requires { RainRange area weighted tenths }
-    ensures { result ≡ rain_year area weighted tenths }
-{
-    let first = tenths * 3 * weighted * over(tenths, 2500);
-    if 15 * area < weighted {
-        return first + tenths * 40000 * (weighted - 15 * area);
+// What a unit's soil records add up to: A, their hectares, and S, their hectares times K.
+#[derive(Clone, Copy)]
+pub struct Soils {
+    pub area: u64,
+    pub weighted: u64,
+}
+
+impl Soils {
+    #[tactic(auto, unfolding(crate::specs::Year::rain_year))]
+    // A rain year of p tenths gives p × 3 × S × (p − 2500), and where S exceeds 15 × A also p × 40,000 × (S − 15 × A), in
+    // 6,000,000,000ths.
+    pub fn rain_year(self, tenths: u64) -> u64
+        requires { RainRange self.area self.weighted tenths }
+        ensures { result ≡ year.rain_year self.area self.weighted tenths }
+    {
+        let first = tenths * 3 * self.weighted * tenths.saturating_sub(2500);
+        first + tenths * 40000 * self.weighted.saturating_sub(15 * self.area)
     }
-    first
 }
 
-// A gauged year gives outflow − inflow + extraction + exports − imports − returns + evaporation + storage change.
-pub fn gauged_year(
-    outflow: u32,
-    inflow: u32,
-    extraction: u32,
-    exports: u32,
-    imports: u32,
-    returns: u32,
-    evaporation: u32,
-    storage: i64,
-) -> i64
-    requires { StorageRange storage }
-    ensures { result ≡ gauged_year outflow inflow extraction exports imports returns evaporation storage }
-{
-    let up = laws::above(storage);
-    let down = laws::below(storage);
-    let gains = (outflow as u64)
-        + (extraction as u64)
-        + (exports as u64)
-        + (evaporation as u64)
-        + up;
-    let losses = (inflow as u64) + (imports as u64) + (returns as u64) + down;
-    laws::difference(gains, losses)
+// The volumes of a gauged year.
+#[derive(Clone, Copy)]
+pub struct Gauged {
+    pub outflow: u32,
+    pub inflow: u32,
+    pub extraction: u32,
+    pub exports: u32,
+    pub imports: u32,
+    pub returns: u32,
+    pub evaporation: u32,
+    pub storage: i64,
 }
 
+impl Gauged {
+    // A gauged year gives outflow − inflow + extraction + exports − imports − returns + evaporation + storage change.
+    pub fn year(self) -> i64
+        requires { StorageRange self.storage }
+        ensures { result ≡ year.gauged_year self.outflow self.inflow self.extraction self.exports self.imports self.returns self.evaporation self.storage }
+    {
+        let gains = u64::from(self.outflow)
+            + u64::from(self.extraction)
+            + u64::from(self.exports)
+            + u64::from(self.evaporation);
+        let losses = u64::from(self.inflow) + u64::from(self.imports) + u64::from(self.returns);
+        laws::difference(gains, losses) + self.storage
+    }
+}
+
+#[tactic(auto, unfolding(crate::specs::Mean::rounded))]
 // The whole number nearest to num / den, halves up.
 fn rounded(num: u64, den: u64) -> u64
     requires { (num ≤ 3000000000000000000) × (0 < den) × (den ≤ 300000000000) }
@@ -114,21 +130,32 @@ fn rounded(num: u64, den: u64) -> u64
     (2 * num + den) / (2 * den)
 }
 
-// What the sum of the years is divided by: the number of years, of rain years in 6,000,000,000ths.
-fn divisor(gauged: bool, years: u64) -> u64
-    requires { (0 < years) × (years ≤ 50) }
-    ensures { Divides gauged years result }
-{
-    if gauged {
-        return years;
-    }
-    years * 6000000000
+// The years of a unit: whether they are gauged, how many there are, and their sum, of rain years in 6,000,000,000ths.
+#[derive(Clone, Copy)]
+pub struct Years {
+    pub gauged: bool,
+    pub count: u64,
+    pub sum: i64,
 }
 
-// The natural runoff is the mean of the years, rounded once, halves up.
-pub fn natural_runoff(gauged: bool, years: u64, sum: i64) -> u64
-    requires { MeanRange years sum }
-    ensures { result ≡ natural_runoff gauged years sum }
-{
-    rounded(laws::above(sum), divisor(gauged, years))
+impl Years {
+    // What the sum of the years is divided by: the number of years, of rain years in 6,000,000,000ths.
+    fn divisor(self) -> u64
+        requires { (0 < self.count) × (self.count ≤ 50) }
+        ensures { Divides self.gauged self.count result }
+    {
+        if self.gauged {
+            self.count
+        } else {
+            self.count * 6000000000
+        }
+    }
+
+    // The natural runoff is the mean of the years, rounded once, halves up.
+    pub fn natural_runoff(self) -> u64
+        requires { MeanRange self.count self.sum }
+        ensures { result ≡ means.natural_runoff self.gauged self.count self.sum }
+    {
+        rounded(laws::above(self.sum), self.divisor())
+    }
 }
