@@ -1,10 +1,11 @@
 -- Sums over a unit's records, one record more at the end. Assumes nothing.
-use Prim.Native.Nat.{ℕ, suc, ◌+◌, ◌*◌, ◌≤◌, ◌<◌}
+use Prim.Native.Nat.{ℕ, ◌+◌, ◌*◌, ◌≤◌, ◌<◌}
 use mathlib.Core.Path.{◌≡◌, refl, sym, ap, ◌∙◌}
 use mathlib.Core.Bool.{true}
 use mathlib.Core.List.{List, [], ◌∷◌, ◌++◌, map}
 use lib.ListN.{length}
 use lib.IntN.{ℤ, pos, ◌+ℤ◌, +ℤ_assoc, +ℤ_idl, +ℤ_idr}
+use Rattle.std.proofs.lemmas.List.{length-map}
 use native.Mathlib.Nat.{mul-le-mul_left}
 use native.Mathlib.Omega.{arith}
 use borrow.Author.Tests.{ne_eqb}
@@ -46,17 +47,13 @@ unfolding years_sum gauged_sum
 gauges_sum A S [] = refl
 gauges_sum A S (y ∷ gauges) = ap (λ (z : ℤ). gauged_of y +ℤ z) (gauges_sum A S gauges)
 
-length_map : {A B : Type 0} (f : A → B) (xs : List A) → length (map f xs) ≡ length xs
-length_map f [] = refl
-length_map f (x ∷ xs) = ap suc (length_map f xs)
-
 -- The natural runoff of a unit with soil records and rain years is the mean of these years on these soils.
 pub rain_mean : (plots : List Plot) (rains : List Rain) → 0 < length plots → runoff_of plots (map of_rain rains) ≡ rain_runoff plots rains
 unfolding rain_runoff
 rain_mean plots rains h = λ i.
-    natural_runoff (ne_eqb (length plots) 0 (omega arith) i) (length_map of_rain rains i) (rains_sum (area_of plots) (weighted_of plots) rains i)
+    natural_runoff (ne_eqb (length plots) 0 (omega arith) i) (length-map rains of_rain i) (rains_sum (area_of plots) (weighted_of plots) rains i)
 
 -- The natural runoff of a unit with gauged years and no soil records is the mean of these years.
 pub gauged_mean : (gauges : List Gauged) → runoff_of [] (map of_gauge gauges) ≡ gauged_runoff gauges
 unfolding gauged_runoff
-gauged_mean gauges = λ i. natural_runoff true (length_map of_gauge gauges i) (gauges_sum (area_of []) (weighted_of []) gauges i)
+gauged_mean gauges = λ i. natural_runoff true (length-map gauges of_gauge i) (gauges_sum (area_of []) (weighted_of []) gauges i)

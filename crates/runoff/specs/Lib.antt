@@ -1,4 +1,4 @@
--- Natural runoff of a unit (000, appendix A).
+-- Natural runoff of a unit.
 pub mod Soil
 pub mod Year
 pub mod Mean

@@ -1,4 +1,4 @@
--- Soil and cover (000, appendix A). Assumes nothing.
+-- K by soil and cover. Assumes nothing.
 use Rattle.std.specs.Prelude.{ℕ, ◌*◌, ◌-◌, ◌≤◌, ◌≡◌, List, [], ◌∷◌, get_or}
 
 row : ℕ → ℕ → ℕ → List ℕ

@@ -1,4 +1,4 @@
--- What one year yields (document 01; rain by document 02 [1]). Assumes nothing.
+-- What one year yields. Assumes nothing.
 use Rattle.std.specs.Prelude.{ℕ, ◌+◌, ◌-◌, ◌*◌, ◌≤◌, ◌<◌, ◌^◌, cond, ltb, ℤ, pos, ◌+ℤ◌, ◌-ℤ◌}
 use Rattle.laws.specs.Signed.{above, below}
 use Rattle.runoff.specs.declared.Measure.{Measure}

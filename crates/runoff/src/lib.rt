@@ -2,11 +2,12 @@
 #![tactic(auto)]
 
 ghost use Rattle.std.specs.Prelude.{◌≡◌, ◌-◌, ◌≤◌, ◌<◌};
-ghost use Rattle.runoff.specs.Soil.{Known, Tabled, weighted};
+ghost use Rattle.runoff.specs.Soil.{Known, Tabled};
 ghost use Rattle.runoff.specs.Year as year;
 ghost use Rattle.runoff.specs.Year.{RainRange, StorageRange};
 ghost use Rattle.runoff.specs.Mean.{Divides, MeanRange};
 ghost use Rattle.runoff.specs.Mean as means;
+ghost use Rattle.runoff.specs.Record.{gauged_of};
 
 // K in hundredths, a row for each cover from 1 to 14, for soils A, B, C.
 const K: [[u8; 3]; 14] = [
@@ -37,6 +38,7 @@ pub struct Plot {
 
 impl Plot {
     // K of the cover and the soil.
+    #[tactic(auto, using(crate::proofs::Table::coefficient_within), unfolding(crate::specs::Soil::coefficient, crate::specs::Soil::coefficients))]
     pub fn coefficient(self) -> u64
         requires { Known self.cover self.soil }
         ensures { Tabled self.cover self.soil result }
@@ -81,9 +83,9 @@ pub struct Soils {
 }
 
 impl Soils {
-    #[tactic(auto, unfolding(crate::specs::Year::rain_year))]
     // A rain year of p tenths gives p × 3 × S × (p − 2500), and where S exceeds 15 × A also p × 40,000 × (S − 15 × A), in
     // 6,000,000,000ths.
+    #[tactic(auto, unfolding(crate::specs::Year::rain_year))]
     pub fn rain_year(self, tenths: u64) -> u64
         requires { RainRange self.area self.weighted tenths }
         ensures { result ≡ year.rain_year self.area self.weighted tenths }
@@ -110,7 +112,7 @@ impl Gauged {
     // A gauged year gives outflow − inflow + extraction + exports − imports − returns + evaporation + storage change.
     pub fn year(self) -> i64
         requires { StorageRange self.storage }
-        ensures { result ≡ year.gauged_year self.outflow self.inflow self.extraction self.exports self.imports self.returns self.evaporation self.storage }
+        ensures { result ≡ gauged_of self }
     {
         let gains = u64::from(self.outflow)
             + u64::from(self.extraction)
@@ -121,8 +123,8 @@ impl Gauged {
     }
 }
 
-#[tactic(auto, unfolding(crate::specs::Mean::rounded))]
 // The whole number nearest to num / den, halves up.
+#[tactic(auto, unfolding(crate::specs::Mean::rounded))]
 fn rounded(num: u64, den: u64) -> u64
     requires { (num ≤ 3000000000000000000) × (0 < den) × (den ≤ 300000000000) }
     ensures { result ≡ means.rounded num den }
