@@ -1,7 +1,7 @@
 // The few signed steps of the balance. Everything else is worked in natural numbers.
 #![tactic(auto)]
 
-ghost use Rattle.std.specs.Prelude.{◌≡◌, ◌<◌, ◌^◌, pos, ◌+ℤ◌, ◌-ℤ◌};
+ghost use Rattle.std.specs.Prelude.{◌≡◌, ◌<◌, ◌^◌, pos, ◌-ℤ◌};
 ghost use Rattle.laws.specs.Signed as parts;
 
 // How far z lies above 0.
@@ -31,12 +31,4 @@ pub fn signed32(n: u32) -> i64
     ensures { result ≡ parts.signed32 n }
 {
     i64::from(n.cast_signed())
-}
-
-// a + b, of numbers that leave room for the sum.
-pub fn plus(a: i64, b: i64) -> i64
-    requires { parts.Roomy a b }
-    ensures { result ≡ a +ℤ b }
-{
-    a + b
 }

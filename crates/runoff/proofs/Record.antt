@@ -11,7 +11,10 @@ use native.Mathlib.Omega.{arith}
 use borrow.Author.Tests.{ne_eqb}
 use Rattle.runoff.specs.Soil.{weighted, Known}
 use Rattle.runoff.specs.Mean.{natural_runoff}
-use Rattle.runoff.specs.Record.{Plot, area_of, weighted_of, Rain, rain_of, rain_sum, rain_runoff, Gauged, gauged_of, gauged_sum, gauged_runoff, Year, of_rain, of_gauge, year_gives, years_sum, runoff_of}
+use Rattle.runoff.specs.declared.Plot.{Plot}
+use Rattle.runoff.specs.declared.Rain.{Rain}
+use Rattle.runoff.specs.declared.Gauged.{Gauged}
+use Rattle.runoff.specs.Record.{area_of, weighted_of, rain_of, rain_sum, rain_runoff, gauged_of, gauged_sum, gauged_runoff, Year, of_rain, of_gauge, year_gives, years_sum, runoff_of}
 use Rattle.runoff.proofs.Table.{coefficient_within}
 
 -- Hectares times K is at most 33 times the hectares.

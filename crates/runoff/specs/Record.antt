@@ -1,10 +1,9 @@
 -- Natural runoff of a unit from its soil records and its years, as lists. Assumes nothing.
 use Rattle.std.specs.Prelude.{ℕ, ◌+◌, Bool, true, false, List, [], ◌∷◌, eqb, length, ℤ, pos, ◌+ℤ◌}
 use Rattle.runoff.specs.Soil.{weighted}
--- A soil record, a year's rain and a gauged year: the code's structs.
-pub use Rattle.runoff.specs.declared.Plot.{Plot}
-pub use Rattle.runoff.specs.declared.Rain.{Rain}
-pub use Rattle.runoff.specs.declared.Gauged.{Gauged}
+use Rattle.runoff.specs.declared.Plot.{Plot}
+use Rattle.runoff.specs.declared.Rain.{Rain}
+use Rattle.runoff.specs.declared.Gauged.{Gauged}
 use Rattle.runoff.specs.Year.{in_tenths, rain_year, gauged_year}
 use Rattle.runoff.specs.Mean.{natural_runoff}
 
