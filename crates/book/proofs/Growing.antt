@@ -14,8 +14,11 @@ use Rattle.model.specs.declared.Aquifer.{Aquifer}
 use Rattle.model.specs.declared.Balance.{Balance}
 use Rattle.model.specs.Fresh.{empty_unit, empty_aquifer}
 use Rattle.runoff.specs.Year.{RainRange, in_tenths}
-use Rattle.runoff.specs.Record.{Plot, Rain, Gauged, of_rain, of_gauge}
-use Rattle.runoff.proofs.Rain.{rain_within}
+use Rattle.runoff.specs.declared.Plot.{Plot}
+use Rattle.runoff.specs.declared.Rain.{Rain}
+use Rattle.runoff.specs.declared.Gauged.{Gauged}
+use Rattle.runoff.specs.Record.{of_rain, of_gauge}
+use Rattle.runoff.proofs.RainBounds.{rain_within}
 use Rattle.record.specs.Described.{DescribedUnit, add_plot, add_year, no_unit, summed, unit_of}
 use Rattle.record.specs.Entries.{Entry, unit_entry, soil_entry, year_entry, aquifer_entry}
 use Rattle.record.specs.Fault.{Sane, Closed, closing_fault, gauged_outside}

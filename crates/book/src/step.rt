@@ -9,7 +9,7 @@ use record::{
     gauge_fault, mark_of, rain_fault, signed_bits32, soil_fault, unit_fault, unit_record,
     with_soil, with_year, year_at,
 };
-use runoff::Measure;
+use runoff::{Measure, Rain, Soils};
 
 // A UN closes the open unit, then is refused or opens the next.
 fn unit_step(s: &[u8], at: usize, u: UnitRecord, units: usize, aquifers: usize) -> Next
@@ -89,7 +89,11 @@ fn rain_step(
             place: at,
         };
     }
-    let tenths = runoff::in_tenths(measure, bits16(s, at + 2));
+    let rain = Rain {
+        measure,
+        depth: bits16(s, at + 2),
+    };
+    let tenths = rain.in_tenths();
     let fault = rain_fault(units, aquifers, u, tenths);
     if fault != 0 {
         return Next::Refused {
@@ -97,7 +101,11 @@ fn rain_step(
             place: at,
         };
     }
-    let year = runoff::rain_year(u.hectares, u.weighted, tenths);
+    let soils = Soils {
+        area: u.hectares,
+        weighted: u.weighted,
+    };
+    let year = soils.rain_year(tenths);
     Next::Grows {
         unit: with_year(u, laws::difference(year, 0)),
         to: at + 4,

@@ -13,7 +13,9 @@ use Rattle.model.specs.View.{View, view_of}
 use Rattle.runoff.specs.Soil.{coefficient, coefficients}
 use Rattle.runoff.specs.Year.{in_tenths, rain_year, rain_parts}
 use Rattle.runoff.specs.Mean.{rounded}
-use Rattle.runoff.specs.Record.{Plot, Rain, area_of, weighted_of, rain_of}
+use Rattle.runoff.specs.declared.Plot.{Plot}
+use Rattle.runoff.specs.declared.Rain.{Rain}
+use Rattle.runoff.specs.Record.{area_of, weighted_of, rain_of}
 use Rattle.river.specs.Flow.{flow}
 use Rattle.river.specs.Reserve.{contribution, inflow, total, demand, committed_to, committed, own_reserve}
 use Rattle.figures.specs.Figures.{unit_figures, aquifer_figures, no_unit_figures, no_aquifer_figures}

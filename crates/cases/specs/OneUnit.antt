@@ -10,7 +10,10 @@ use Rattle.model.specs.Answers.{first_from}
 use Rattle.runoff.specs.Soil.{coefficient, coefficients}
 use Rattle.runoff.specs.Year.{rain_year}
 use Rattle.runoff.specs.Mean.{rounded}
-use Rattle.runoff.specs.Record.{Plot, Rain, Gauged, area_of, weighted_of, years_sum}
+use Rattle.runoff.specs.declared.Plot.{Plot}
+use Rattle.runoff.specs.declared.Rain.{Rain}
+use Rattle.runoff.specs.declared.Gauged.{Gauged}
+use Rattle.runoff.specs.Record.{area_of, weighted_of, years_sum}
 use Rattle.river.specs.Flow.{flow}
 use Rattle.book.specs.declared.Opened.{Opened}
 use Rattle.book.specs.Reading.{reading_from, opened}

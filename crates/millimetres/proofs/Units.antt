@@ -14,7 +14,9 @@ use Rattle.runoff.specs.declared.Measure.{Measure}
 use Rattle.runoff.specs.declared.Measure.TheVariants.{Millimetres}
 use Rattle.runoff.specs.Year.{in_tenths, rain_year}
 use Rattle.runoff.specs.Mean.{rounded, divisor}
-use Rattle.runoff.specs.Record.{Rain, Gauged, Year, of_rain, of_gauge, area_of, weighted_of, gauged_of, years_sum, sum_on, runoff_of}
+use Rattle.runoff.specs.declared.Rain.{Rain}
+use Rattle.runoff.specs.declared.Gauged.{Gauged}
+use Rattle.runoff.specs.Record.{Year, of_rain, of_gauge, area_of, weighted_of, gauged_of, years_sum, sum_on, runoff_of}
 use Rattle.record.specs.Described.{DescribedUnit, RainUnit, GaugedUnit}
 use Rattle.record.proofs.Means.{Kind}
 use Rattle.millimetres.specs.Rule.{mm_year, mm_years_sum, mm_sum_on, mm_runoff}

@@ -3,7 +3,8 @@ use Rattle.std.specs.Prelude.{ℕ, ◌+◌, ◌-◌, ◌*◌, cond, List, [], �
 use Rattle.laws.specs.Signed.{above}
 use Rattle.model.specs.declared.Unit.{Unit}
 use Rattle.runoff.specs.Mean.{rounded}
-use Rattle.runoff.specs.Record.{Plot, Year, of_rain, of_gauge, area_of, weighted_of, gauged_of, gauged_on}
+use Rattle.runoff.specs.declared.Plot.{Plot}
+use Rattle.runoff.specs.Record.{Year, of_rain, of_gauge, area_of, weighted_of, gauged_of, gauged_on}
 use Rattle.record.specs.Described.{DescribedUnit, unit_giving}
 
 -- A rain year of P mm gives P × 3 × S × (P − 250), and where S exceeds 15 × A also P × 4000 × (S − 15 × A), in 60,000,000ths of a

@@ -21,8 +21,9 @@ use Rattle.record.specs.Record.{gauge_of}
 use Rattle.runoff.specs.declared.Measure.{Measure}
 use Rattle.runoff.specs.declared.Measure.TheVariants.{Millimetres, Tenths}
 use Rattle.runoff.specs.Year.{in_tenths, gauged_year}
-use Rattle.runoff.specs.Record.{Gauged, gauged_of}
-use Rattle.runoff.proofs.Gauged.{gauged_parts}
+use Rattle.runoff.specs.declared.Gauged.{Gauged}
+use Rattle.runoff.specs.Record.{gauged_of}
+use Rattle.runoff.proofs.GaugedParts.{gauged_parts}
 
 -- A disjunction that fails, by its two sides.
 pub or_left : (t u : Bool) → t || u ≡ false → t ≡ false

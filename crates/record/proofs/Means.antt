@@ -4,7 +4,10 @@ use mathlib.Core.Logic.{◌⊎◌, inl, inr}
 use mathlib.Core.List.{List, [], ◌∷◌, ◌++◌, map}
 use lib.ListN.{length, length-append}
 use native.Mathlib.Omega.{arith}
-use Rattle.runoff.specs.Record.{Plot, Rain, Gauged, Year, of_rain, of_gauge, rain_runoff, gauged_runoff, runoff_of}
+use Rattle.runoff.specs.declared.Plot.{Plot}
+use Rattle.runoff.specs.declared.Rain.{Rain}
+use Rattle.runoff.specs.declared.Gauged.{Gauged}
+use Rattle.runoff.specs.Record.{Year, of_rain, of_gauge, rain_runoff, gauged_runoff, runoff_of}
 use Rattle.runoff.proofs.Record.{rain_mean, gauged_mean}
 use Rattle.record.specs.Described.{DescribedUnit, add_plot, add_year, RainUnit, GaugedUnit, unit_of}
 

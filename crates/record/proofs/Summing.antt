@@ -7,7 +7,8 @@ use lib.ListN.{length, length-append}
 use native.Mathlib.Omega.{arith}
 use Rattle.laws.specs.Signed.{above, below}
 use Rattle.runoff.specs.declared.Measure.{Measure}
-use Rattle.runoff.specs.Record.{Plot, Year, of_rain, of_gauge, area_of, weighted_of, rain_of, year_gives, years_sum, sum_on}
+use Rattle.runoff.specs.declared.Plot.{Plot}
+use Rattle.runoff.specs.Record.{Year, of_rain, of_gauge, area_of, weighted_of, rain_of, year_gives, years_sum, sum_on}
 use Rattle.runoff.proofs.Record.{area_of_more, weighted_of_more, years_sum_more}
 use Rattle.record.specs.Record.{unit_record, with_sums, with_soil, with_year, gauge_of, no_sums}
 use Rattle.record.specs.Described.{DescribedUnit, unit_at, plot_at, rain_at, gauged_at, with_records, add_plot, add_year, no_unit, summed}

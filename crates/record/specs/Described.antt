@@ -2,7 +2,10 @@
 use Rattle.std.specs.Prelude.{ℕ, ◌+◌, ◌<◌, ◌≡◌, List, [], ◌∷◌, ◌++◌, map, ℤ, pos, length}
 use Rattle.model.specs.declared.Unit.{Unit}
 use Rattle.runoff.specs.declared.Measure.{Measure}
-use Rattle.runoff.specs.Record.{Plot, Rain, Gauged, Year, of_rain, of_gauge, area_of, weighted_of, sum_on, runoff_of}
+use Rattle.runoff.specs.declared.Plot.{Plot}
+use Rattle.runoff.specs.declared.Rain.{Rain}
+use Rattle.runoff.specs.declared.Gauged.{Gauged}
+use Rattle.runoff.specs.Record.{Year, of_rain, of_gauge, area_of, weighted_of, sum_on, runoff_of}
 use Rattle.record.specs.declared.UnitRecord.{UnitRecord}
 use Rattle.record.specs.Bytes.{bits8, bits16, bits32, signed_bits32}
 

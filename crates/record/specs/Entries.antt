@@ -2,7 +2,8 @@
 use Rattle.std.specs.Prelude.{ℕ, ◌+◌, ◌-◌, cond, List, eqb, ltb, length}
 use Rattle.model.specs.declared.Aquifer.{Aquifer}
 use Rattle.runoff.specs.declared.Measure.TheVariants.{Millimetres, Tenths}
-use Rattle.runoff.specs.Record.{Plot, Year, of_rain, of_gauge}
+use Rattle.runoff.specs.declared.Plot.{Plot}
+use Rattle.runoff.specs.Record.{Year, of_rain, of_gauge}
 use Rattle.record.specs.declared.Mark.{Mark}
 use Rattle.record.specs.declared.Mark.TheVariants.{Un, Su, Pr, Pd, Af, Ac, Call, Unknown}
 use Rattle.record.specs.Bytes.{bits8}

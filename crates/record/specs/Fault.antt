@@ -9,7 +9,8 @@ use Rattle.river.specs.Wells.{recharge}
 use Rattle.runoff.specs.Mean.{divisor}
 use Rattle.runoff.specs.declared.Measure.{Measure}
 use Rattle.runoff.specs.declared.Measure.TheVariants.{Millimetres, Tenths}
-use Rattle.runoff.specs.Record.{Gauged, Year, of_rain, of_gauge}
+use Rattle.runoff.specs.declared.Gauged.{Gauged}
+use Rattle.runoff.specs.Record.{Year, of_rain, of_gauge}
 use Rattle.record.specs.Bytes.{bits32, signed_bits32}
 use Rattle.record.specs.Record.{is_gauged}
 use Rattle.record.specs.declared.UnitRecord.{UnitRecord}

@@ -8,6 +8,7 @@ ghost use Rattle.record.specs.Fault.{Sane, Closed, YearRange, gauge_outside_at};
 use crate::bytes::{bits8, bits32, signed_bits32};
 use crate::{CallMark, Mark, UnitRecord};
 use model::{Aquifer, Unit};
+use runoff::{Gauged, Plot, Years};
 
 // The two letters stand at the two bytes.
 pub fn spells(a: u8, b: u8, x: u8, y: u8) -> bool
@@ -144,7 +145,12 @@ pub fn with_soil(u: UnitRecord, cover: u8, soil: u8, hectares: u32) -> UnitRecor
     ensures { result ≡ records.with_soil u cover soil hectares }
 {
     let area = hectares as u64;
-    let weighted = area * runoff::coefficient(cover, soil);
+    let plot = Plot {
+        cover,
+        soil,
+        hectares,
+    };
+    let weighted = area * plot.coefficient();
     let mut next = u;
     next.soils = u.soils + 1;
     next.hectares = u.hectares + area;
@@ -158,11 +164,9 @@ pub fn with_year(u: UnitRecord, year: i64) -> UnitRecord
     requires year_range { YearRange year }
     ensures { result ≡ records.with_year u year }
 {
-    let before = u.sum;
-    let sum = laws::plus(before, year);
     let mut next = u;
     next.years = u.years + 1;
-    next.sum = sum;
+    next.sum = u.sum + year;
     next
 }
 
@@ -173,23 +177,17 @@ pub fn year_at(s: &[u8], at: usize, storage: i64) -> i64
     requires at_value { gauge_outside_at s.now at ≡ false }
     ensures { result ≡ records.gauge_of s.now at }
 {
-    let outflow = bits32(s, at + 2);
-    let inflow = bits32(s, at + 6);
-    let extraction = bits32(s, at + 10);
-    let exports = bits32(s, at + 14);
-    let imports = bits32(s, at + 18);
-    let returns = bits32(s, at + 22);
-    let evaporation = bits32(s, at + 26);
-    runoff::gauged_year(
-        outflow,
-        inflow,
-        extraction,
-        exports,
-        imports,
-        returns,
-        evaporation,
+    let gauged = Gauged {
+        outflow: bits32(s, at + 2),
+        inflow: bits32(s, at + 6),
+        extraction: bits32(s, at + 10),
+        exports: bits32(s, at + 14),
+        imports: bits32(s, at + 18),
+        returns: bits32(s, at + 22),
+        evaporation: bits32(s, at + 26),
         storage,
-    )
+    };
+    gauged.year()
 }
 
 // The unit of the balance that a closed unit gives.
@@ -198,9 +196,12 @@ pub fn unit_of(u: UnitRecord) -> Unit
     ensures { result ≡ records.closed_unit u }
 {
     let storage = u.storage;
-    let sum = u.sum;
-    let gauged = u.soils == 0;
-    let runoff = runoff::natural_runoff(gauged, u.years, sum);
+    let years = Years {
+        gauged: u.soils == 0,
+        count: u.years,
+        sum: u.sum,
+    };
+    let runoff = years.natural_runoff();
     Unit {
         downstream: u.downstream,
         extraction: u.extraction,

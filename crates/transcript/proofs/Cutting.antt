@@ -19,7 +19,9 @@ use Rattle.model.specs.declared.Found.TheVariants.{At, Nothing}
 use Rattle.river.specs.Wells.{recharge}
 use Rattle.runoff.specs.declared.Measure.{Measure}
 use Rattle.runoff.specs.declared.Measure.TheVariants.{Millimetres, Tenths}
-use Rattle.runoff.specs.Record.{Rain, Gauged, Year, of_rain, of_gauge}
+use Rattle.runoff.specs.declared.Rain.{Rain}
+use Rattle.runoff.specs.declared.Gauged.{Gauged}
+use Rattle.runoff.specs.Record.{Year, of_rain, of_gauge}
 use Rattle.record.specs.declared.UnitRecord.{UnitRecord}
 use Rattle.record.specs.declared.Mark.{Mark}
 use Rattle.record.specs.declared.Mark.TheVariants.{Un, Su, Pr, Pd, Af, Ac, Call, Unknown}

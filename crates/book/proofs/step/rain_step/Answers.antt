@@ -16,7 +16,7 @@ use Rattle.record.specs.Fault as faults
 use Rattle.record.specs.Record.{with_year}
 use Rattle.book.proofs.Steps.{is_short, is_whole, is_faulty, is_clean}
 use Rattle.record.proofs.Faults.{fault_in_tenths, rain_clean}
-use Rattle.runoff.proofs.Rain.{rain_within}
+use Rattle.runoff.proofs.RainBounds.{rain_within}
 use Rattle.book.proofs.step.rain_step.Goals as goal
 use Rattle.book.proofs.step.rain_step.Goals.{After-difference, After-in_tenths-tenths, After-rain_fault-fault, After-rain_year-year, Else-fault-ne0}
 
