@@ -1,19 +1,12 @@
 -- Tests that hold together, and tests that hold at every place below a number. Assumes nothing.
 use Prim.Native.Nat.{ℕ, zero, suc, ◌<◌}
 use mathlib.Core.Path.{◌≡◌, refl, sym, ap, ◌∙◌}
-use mathlib.Core.Bool.{Bool, true, false, ◌&&◌, ◌||◌, true≢false}
+use mathlib.Core.Bool.{Bool, true, false, ◌&&◌, true≢false}
 use native.Mathlib.Omega.{arith}
+-- Both tests of a conjunction hold, and neither of a disjunction that fails.
+pub use Rattle.std.proofs.lemmas.Bool.{and_parts as both, or_parts as neither}
 use Rattle.laws.specs.Sum.{every}
 use Rattle.laws.proofs.Cases.{by_bool, by_eq}
-
--- Both tests of a conjunction hold, and neither of a disjunction that fails.
-pub both : (a b : Bool) → a && b ≡ true → (a ≡ true) × (b ≡ true)
-both true b e = (refl, e)
-both false b e = absurd (true≢false (sym e))
-
-pub neither : (a b : Bool) → a || b ≡ false → (a ≡ false) × (b ≡ false)
-neither true b e = absurd (true≢false e)
-neither false b e = (refl, e)
 
 module _ (t : ℕ → Bool) where
   -- The test holds at every place exactly where it holds at each.

@@ -1,6 +1,5 @@
 -- Integers by their two natural parts, above and below 0, so that `omega` can work with them. Assumes nothing.
 --     plus_parts, minus_parts, negate_parts     the parts of a sum, a difference and a negative
---     minus_parts_of                            the same of a number that equals a difference
 --     equal_parts, parts_equal                  equality as an equation of parts, and back
 --     le_parts, parts_le                        the order ≤ℤ
 --     lt_z_false .. parts_negative               the tests lt_z, le_z and non_neg
@@ -18,7 +17,7 @@ use mir.Syntax.{w64}
 use mir.Val.{SFits, to_z, of_z}
 use native.Mathlib.Omega.{arith}
 use borrow.Author.Tests.{ltb-false, leb-true, lt-ltb, le-ltb, le-leb}
-use Rattle.laws.specs.Signed.{above, below, Roomy}
+use Rattle.laws.specs.Signed.{above, below}
 use Rattle.laws.proofs.Cases.{by_lt}
 use Rattle.laws.proofs.Signs.{subℕ_lt, subℕ_le, whole}
 
@@ -46,9 +45,6 @@ negate_parts (negsuc n) = (refl, refl)
 
 pub minus_parts : (a b : ℤ) → above (a -ℤ b) + below a + above b ≡ below (a -ℤ b) + above a + below b
 minus_parts a b = omega (arith, plus_parts a (neg_ℤ b), (negate_parts b).0, (negate_parts b).1)
-
-pub minus_parts_of : (r a b : ℤ) → r ≡ a -ℤ b → above r + below a + above b ≡ below r + above a + below b
-minus_parts_of r a b e = rw e (minus_parts a b)
 
 -- Equality.
 pub equal_parts : (a b : ℤ) → a ≡ b → above a + below b ≡ below a + above b
@@ -173,11 +169,3 @@ less_non_neg {z} p h = by_sign z (λ g. parts_non_neg z g) (λ g k. absurd (omeg
 
 pub less_negative : {z : ℤ} {a b : ℕ} → Less z a b → a < b → non_neg z ≡ false
 less_negative {z} p h = by_sign z (λ g. absurd (omega arith)) (λ g k. parts_negative z k)
-
--- What `laws::difference` gives.
-pub difference_parts : (r : ℤ) (gains losses : ℕ) → r ≡ pos gains -ℤ pos losses → above r + losses ≡ below r + gains
-difference_parts r gains losses e = omega (arith, minus_parts_of r (pos gains) (pos losses) e)
-
--- A sum of two numbers that leave room for it fits 64 bits.
-pub plus_fits : (a b : ℤ) → Roomy a b → SFits w64 (a +ℤ b)
-plus_fits a b r = by_sign (a +ℤ b) (λ h. parts_fit (a +ℤ b) (omega (arith, plus_parts a b)) (omega arith)) (λ h k. parts_fit (a +ℤ b) (omega arith) (omega (arith, plus_parts a b)))
