@@ -1,3 +1,2 @@
-pub mod Percents
 pub mod Adding
 pub mod Raising

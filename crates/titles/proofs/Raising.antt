@@ -1,70 +1,23 @@
--- The steps of the loop over the register. Assumes nothing.
-use Prim.Native.Nat.{ℕ, suc, ◌+◌, ◌-◌, ◌≤◌, ◌<◌, zero-le}
-use mathlib.Core.Path.{◌≡◌, refl, sym, ap, subst, ◌∙◌}
-use mathlib.Core.Bool.{Bool, true, false}
+-- The steps of a loop over the register that adds its titles up. Assumes nothing.
+use Prim.Native.Nat.{ℕ, ◌+◌, ◌≤◌}
+use mathlib.Core.Path.{◌≡◌, refl, sym, ap, ◌∙◌}
+use mathlib.Core.Bool.{true, false}
 use mathlib.Core.List.{List}
-use lib.Dec.{eqb}
-use lib.ListN.{length, get_or, set, replicate, length-set, get_or-replicate}
-use lib.Seq.{get_or-set_same, get_or-set_other}
-use native.Mathlib.Nat.{le_refl}
+use lib.ListN.{get_or, replicate, get_or-replicate}
 use native.Mathlib.Omega.{arith}
-use borrow.Author.Tests.{eq-eqb, ne_eqb}
-use Rattle.laws.specs.Sum.{naturals, only}
-use Rattle.laws.proofs.Cases.{by_eq}
 use Rattle.model.specs.declared.Place.{Place}
 use Rattle.model.specs.Fresh.{empty_place}
-use Rattle.model.specs.declared.Title.{Title}
 use Rattle.titles.specs.declared.Slot.{Slot}
 use Rattle.titles.specs.declared.Slot.TheVariants.{Extraction, Exports, Imports, Returns, WellExtraction}
 use Rattle.titles.specs.declared.Sums.{Sums}
-use Rattle.titles.specs.Posting.{Posting, nothing, post, posts}
+use Rattle.titles.specs.Posting.{Posting, nothing, posts}
 use Rattle.titles.specs.Adds.{place_adds}
-use Rattle.titles.specs.Titled.{Titled, HasRoom, Raised, AllHaveRoom, RaisedBy, RaisedAll, TitledAll, sums_of, five}
+use Rattle.titles.specs.Titled.{Titled, HasRoom, Raised, AllHaveRoom, RaisedAll, TitledAll, no_sums}
 use Rattle.titles.proofs.Adding.{places_none, places_more, in_force_lem, out_of_force}
-
-only_within : (t : Bool) (a : ℕ) → only naturals t a ≤ a
-only_within true a = le_refl a
-only_within false a = zero-le
-
--- An amount that is posted adds no more than itself.
-posted_within : (n a j : ℕ) → posts (post n a) j ≤ a
-posted_within n a j = only_within (eqb n (suc j)) a
-
--- A number that is 0 or above 64 is no index's.
-pub raised_nowhere : (xs : List ℕ) (n a : ℕ) → length xs ≡ 64 → a ≤ 4294967295 → ((j : ℕ) → j < 64 → n ≡ suc j → ⊥) → Raised xs (post n a) xs
-raised_nowhere xs n a l w out =
-    record {
-      places = l;
-      within = λ j. omega (arith, posted_within n a j);
-      sums = λ j h. rw (ne_eqb n (suc j) (out j h)) (omega arith);
-    }
 
 -- Sums to which nothing is posted stay as they are.
 pub raised_none : (xs : List ℕ) → HasRoom xs → Raised xs nothing xs
 raised_none xs r = record { places = r.places; within = λ j. omega arith; sums = λ j h. omega arith }
-
--- The same amount by another name.
-pub raised_amount : {xs r : List ℕ} {n a b : ℕ} → a ≡ b → Raised xs (post n a) r → Raised xs (post n b) r
-raised_amount {xs = xs} {r = r} {n = n} e h = subst (λ (a : ℕ). Raised xs (post n a) r) e h
-
--- The amount goes to index n - 1.
-pub raised_at : (xs : List ℕ) (n a : ℕ) → length xs ≡ 64 → a ≤ 4294967295 → 1 ≤ n → n ≤ 64
-    → Raised xs (post n a) (set xs (n - 1) (get_or xs (n - 1) 0 + a))
-raised_at xs n a l w lo hi =
-    record {
-      places = length-set xs (n - 1) _ ∙ l;
-      within = λ j. omega (arith, posted_within n a j);
-      sums =
-          λ j h. by_eq j (n - 1)
-          (λ q. rw (eq-eqb n (suc j) (omega arith))
-          (omega (
-            arith,
-            ap (λ (i : ℕ). get_or (set xs (n - 1) (get_or xs (n - 1) 0 + a)) i 0) q,
-            get_or-set_same xs (n - 1) (get_or xs (n - 1) 0 + a) 0 (omega arith),
-            ap (λ (i : ℕ). get_or xs i 0) q,
-          )))
-          (λ q. rw (ne_eqb n (suc j) (omega arith)) (omega (arith, get_or-set_other xs (n - 1) j (get_or xs (n - 1) 0 + a) 0 q)));
-    }
 
 -- What holds of each of the five entries holds of all of them.
 by_slot : (P : Slot → Type 0) → P Extraction → P Exports → P Imports → P Returns → P WellExtraction → (s : Slot) → P s
@@ -74,12 +27,23 @@ by_slot P a b c d e Imports = c
 by_slot P a b c d e Returns = d
 by_slot P a b c d e WellExtraction = e
 
--- The title that a match found raises what it posts to each entry.
-pub raised_title : (xs r : Sums) {t : Title} (u : Title) → t ≡ u
-    → RaisedBy u Extraction xs.extraction r.extraction → RaisedBy u Exports xs.exports r.exports
-    → RaisedBy u Imports xs.imports r.imports → RaisedBy u Returns xs.returns r.returns
-    → RaisedBy u WellExtraction xs.wells r.wells → RaisedAll t xs r
-raised_title xs r u e a b c d w = rw e (by_slot (λ s. RaisedBy u s (sums_of xs s) (sums_of r s)) a b c d w)
+-- Each of the five entries has room where all have.
+pub record Rooms (r : Sums) : Type 0 where
+  pub extraction : HasRoom r.extraction
+  pub exports : HasRoom r.exports
+  pub imports : HasRoom r.imports
+  pub returns : HasRoom r.returns
+  pub wells : HasRoom r.wells
+
+pub rooms : {r : Sums} → AllHaveRoom r → Rooms r
+rooms h =
+    record {
+      extraction = h Extraction;
+      exports = h Exports;
+      imports = h Imports;
+      returns = h Returns;
+      wells = h WellExtraction;
+    }
 
 module _ (titles : List Place) where
   -- Before the first place the sums are all 0.
@@ -91,7 +55,7 @@ module _ (titles : List Place) where
         within = λ j h. omega (arith, get_or-replicate {A = ℕ} 64 j 0 0 h);
       }
 
-  pub all_none : TitledAll titles 0 (five (replicate 64 0) (replicate 64 0) (replicate 64 0) (replicate 64 0) (replicate 64 0))
+  pub all_none : TitledAll titles 0 no_sums
   all_none =
       by_slot _ (titled_none Extraction) (titled_none Exports) (titled_none Imports) (titled_none Returns) (titled_none WellExtraction)
 

@@ -1,4 +1,4 @@
--- What titles add to the entries (document 01, "Titles"; document 02 [2]). Assumes nothing.
+-- What titles add to the entries. Assumes nothing.
 use Rattle.std.specs.Prelude.{ℕ, ◌*◌, ◌/◌, cond, eqb}
 use Rattle.laws.specs.Sum.{naturals, sum_of, only}
 use Rattle.model.specs.declared.Title.{Title}
@@ -8,7 +8,7 @@ use Rattle.titles.specs.declared.Slot.{Slot}
 use Rattle.model.specs.View.{View}
 use Rattle.titles.specs.Posting.{posts, slot, postings}
 
--- The percentage of a use that returns (000, 4.2.5): 1 agriculture 20, 2 urban 75, 3 industry 55, 4 domestic 75, 5 livestock 15,
+-- The percentage of a use that returns: 1 agriculture 20, 2 urban 75, 3 industry 55, 4 domestic 75, 5 livestock 15,
 -- 6 aquaculture 100, 7 power 100.
 abbrev pub return_percent : ℕ → ℕ
 return_percent r =

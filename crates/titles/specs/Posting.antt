@@ -1,4 +1,4 @@
--- What a title posts to the entries (document 01, "Titles"; document 02 [2]). Assumes nothing.
+-- What a title posts to the entries. Assumes nothing.
 use Rattle.std.specs.Prelude.{ℕ, suc, eqb}
 use Rattle.laws.specs.Sum.{naturals, only}
 use Rattle.model.specs.declared.Title.{Title}

@@ -1,5 +1,5 @@
 -- What the functions over the register give back. Assumes nothing.
-use Rattle.std.specs.Prelude.{ℕ, ◌+◌, ◌<◌, ◌≤◌, ◌*◌, ◌≡◌, List, length, get_or}
+use Rattle.std.specs.Prelude.{ℕ, ◌+◌, ◌<◌, ◌≤◌, ◌*◌, ◌≡◌, List, length, get_or, replicate}
 use Rattle.laws.specs.Sum.{naturals, sum_of}
 use Rattle.model.specs.declared.Place.{Place}
 use Rattle.model.specs.Fresh.{empty_place}
@@ -40,6 +40,12 @@ sums_of r WellExtraction = r.wells
 abbrev pub five : List ℕ → List ℕ → List ℕ → List ℕ → List ℕ → Sums
 five extraction exports imports returns wells =
     record { extraction = extraction; exports = exports; imports = imports; returns = returns; wells = wells }
+
+-- Nothing added to any entry.
+abbrev pub no_sums : Sums
+no_sums =
+    let none = replicate unit_limit 0 in
+    five none none none none none
 
 -- Each of the five has room for one more posting.
 abbrev pub AllHaveRoom : Sums → Type 0

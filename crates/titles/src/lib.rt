@@ -8,7 +8,7 @@ ghost use Rattle.titles.specs.Titled as whole;
 
 use model::{Balance, Title};
 
-// The entries that titles raise.
+// The entries that titles raise. Only the definitions work over them: an enum of the code, since a data type of specs/ would be no plainer.
 #[derive(Clone, Copy)]
 pub enum Slot {
     Extraction,
@@ -28,7 +28,7 @@ pub struct Sums {
     pub wells: [u64; Balance::UNITS],
 }
 
-// The percentage of a use that returns (000, 4.2.5): 1 agriculture, 2 urban, 3 industry, 4 domestic, 5 livestock, 6 aquaculture,
+// The percentage of a use that returns: 1 agriculture, 2 urban, 3 industry, 4 domestic, 5 livestock, 6 aquaculture,
 // 7 power; 0 for a use outside 1 to 7.
 pub fn return_percent(usage: u8) -> u64
     ensures { result ≡ adds.return_percent usage }
@@ -49,75 +49,80 @@ pub fn return_percent(usage: u8) -> u64
 pub fn returned(usage: u8, volume: u32) -> u32
     ensures { result ≡ adds.returned usage volume }
 {
-    let percent = return_percent(usage);
-    ((volume as u64) * percent / 100) as u32
+    (u64::from(volume) * return_percent(usage) / 100) as u32
 }
 
 // The amount of one posting is added at its number. A number that is 0 or above 64 is passed over.
+// The place is tested and indexed: after `get_mut` a proof would know nothing of what the array holds.
 fn raise(sums: &mut [u64; Balance::UNITS], number: u8, amount: u32)
     requires { whole.HasRoom sums.old }
     ensures { whole.Raised sums.old (post number amount) sums.new }
 {
-    if number < 1 {
+    let Some(place) = usize::from(number).checked_sub(1) else {
         return;
+    };
+    if place < Balance::UNITS {
+        sums[place] += u64::from(amount);
     }
-    if Balance::UNITS < (number as usize) {
-        return;
-    }
-    let place = (number - 1) as usize;
-    sums[place] = sums[place] + (amount as u64);
 }
 
-// What a title adds. A withdrawal from a unit adds its volume to the extraction and its return to the returns; a withdrawal from an
-// aquifer to the aquifer's extraction; a transfer from a unit to the giver's exports and the receiver's imports; a transfer from an
-// aquifer to the aquifer's extraction and the unit's imports; a withdrawal from an aquifer that returns to a unit adds its volume to the
-// aquifer's extraction and its return to the unit's returns.
-pub fn add(
-    title: Title,
-    extraction: &mut [u64; Balance::UNITS],
-    exports: &mut [u64; Balance::UNITS],
-    imports: &mut [u64; Balance::UNITS],
-    returns: &mut [u64; Balance::UNITS],
-    wells: &mut [u64; Balance::UNITS],
-)
-    requires { whole.AllHaveRoom (whole.five extraction.old exports.old imports.old returns.old wells.old) }
-    ensures { whole.RaisedAll title
-        (whole.five extraction.old exports.old imports.old returns.old wells.old)
-        (whole.five extraction.new exports.new imports.new returns.new wells.new) }
-{
-    match title {
-        Title::UnitWithdrawal {
-            unit,
-            usage,
-            volume,
-        } => {
-            raise(extraction, unit, volume);
-            raise(returns, unit, returned(usage, volume));
+impl Sums {
+    // Nothing is added to any entry.
+    pub fn none() -> Self
+        ensures { result ≡ whole.no_sums }
+    {
+        Sums {
+            extraction: [0; Balance::UNITS],
+            exports: [0; Balance::UNITS],
+            imports: [0; Balance::UNITS],
+            returns: [0; Balance::UNITS],
+            wells: [0; Balance::UNITS],
         }
-        Title::AquiferWithdrawal { aquifer, volume } => {
-            raise(wells, aquifer, volume);
-        }
-        Title::UnitTransfer { from, to, volume } => {
-            raise(exports, from, volume);
-            raise(imports, to, volume);
-        }
-        Title::AquiferTransfer {
-            aquifer,
-            unit,
-            volume,
-        } => {
-            raise(wells, aquifer, volume);
-            raise(imports, unit, volume);
-        }
-        Title::ReturningWithdrawal {
-            aquifer,
-            unit,
-            usage,
-            volume,
-        } => {
-            let back = returned(usage, volume);
-            raise(wells, aquifer, volume);
-            raise(returns, unit, back);
+    }
+
+    // What a title adds. A withdrawal from a unit adds its volume to the extraction and its return to the returns; a withdrawal from an
+    // aquifer to the aquifer's extraction; a transfer from a unit to the giver's exports and the receiver's imports; a transfer from an
+    // aquifer to the aquifer's extraction and the unit's imports; a withdrawal from an aquifer that returns to a unit adds its volume to the
+    // aquifer's extraction and its return to the unit's returns.
+    #[tactic(auto, using(crate::proofs::Raising::rooms))]
+    pub fn add(&mut self, title: Title)
+        requires { whole.AllHaveRoom self.old }
+        ensures { whole.RaisedAll title self.old self.new }
+    {
+        match title {
+            Title::UnitWithdrawal {
+                unit,
+                usage,
+                volume,
+            } => {
+                raise(&mut self.extraction, unit, volume);
+                raise(&mut self.returns, unit, returned(usage, volume));
+            }
+            Title::AquiferWithdrawal { aquifer, volume } => {
+                raise(&mut self.wells, aquifer, volume);
+            }
+            Title::UnitTransfer { from, to, volume } => {
+                raise(&mut self.exports, from, volume);
+                raise(&mut self.imports, to, volume);
+            }
+            Title::AquiferTransfer {
+                aquifer,
+                unit,
+                volume,
+            } => {
+                raise(&mut self.wells, aquifer, volume);
+                raise(&mut self.imports, unit, volume);
+            }
+            Title::ReturningWithdrawal {
+                aquifer,
+                unit,
+                usage,
+                volume,
+            } => {
+                let back = returned(usage, volume);
+                raise(&mut self.wells, aquifer, volume);
+                raise(&mut self.returns, unit, back);
+            }
         }
     }
 }
