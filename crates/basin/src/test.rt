@@ -8,6 +8,7 @@ ghost use Rattle.basin.specs.Sound as sounds;
 use crate::cover::{aquifers_hold, units_hold};
 use crate::places::title_sound;
 use model::{Aquifer, Balance, Place, Unit};
+use titles::Sums;
 
 // The counts are within their limits.
 fn counts_sound(units: usize, aquifers: usize, given: usize) -> bool
@@ -35,11 +36,7 @@ fn entries_hold(
     requires { (n ≤ unit_limit) × (m ≤ aquifer_limit) × (given ≤ title_limit) }
     ensures { result ≡ sounds.entries_hold (sounds.parts_view units n aquifers m titles given) }
 {
-    let mut extraction = [0u64; Balance::UNITS];
-    let mut exports = [0u64; Balance::UNITS];
-    let mut imports = [0u64; Balance::UNITS];
-    let mut returns = [0u64; Balance::UNITS];
-    let mut wells = [0u64; Balance::UNITS];
+    let mut sums = Sums::none();
     let mut k = 0;
     while k < given {
         let p = titles[k];
@@ -50,20 +47,20 @@ fn entries_hold(
             if !title_sound(title, n, m) {
                 return false;
             }
-            titles::add(
-                title,
-                &mut extraction,
-                &mut exports,
-                &mut imports,
-                &mut returns,
-                &mut wells,
-            );
+            sums.add(title);
         }
     }
-    if !aquifers_hold(aquifers, m, &wells) {
+    if !aquifers_hold(aquifers, m, &sums.wells) {
         return false;
     }
-    units_hold(units, n, &extraction, &exports, &imports, &returns)
+    units_hold(
+        units,
+        n,
+        &sums.extraction,
+        &sums.exports,
+        &sums.imports,
+        &sums.returns,
+    )
 }
 
 // No more is lost than gained at any unit.

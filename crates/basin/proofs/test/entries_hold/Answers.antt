@@ -6,7 +6,7 @@ use borrow.Author.Count.{below_none, below_more}
 use lib.ListN.{get_or}
 use Rattle.laws.proofs.Every.{each_every, every_fails}
 use Rattle.model.specs.Fresh.{empty_place}
-use Rattle.titles.specs.Titled.{TitledAll, five}
+use Rattle.titles.specs.Titled.{TitledAll}
 use Rattle.titles.proofs.Raising.{all_none, all_have_room, all_more, all_kept, all_done}
 use Rattle.model.specs.View.{View}
 use Rattle.basin.specs.Sound.{sound_place, sound_titles, aquifers_hold, parts_view}
@@ -16,7 +16,7 @@ use Rattle.basin.proofs.test.entries_hold.Goals as goal
 use Rattle.basin.proofs.test.entries_hold.Goals.{After-aquifers_hold, After-loop-k, After-title_sound, Start}
 
 pub loop-k-init : goal.loop-k-init
-loop-k-init c = (omega arith, below_none _, all_none _)
+loop-k-init c = (omega arith, below_none _, rw c.none-sums.ensures (all_none _))
 
 -- What the test of a title says of its place.
 place-tested : (c : After-title_sound)
@@ -64,7 +64,7 @@ past-titles c r x e = go _ x r (each_every _ _ (λ k h. c.loop-k.invariant.1 k (
 
 added : (c : After-loop-k)
     → let l = c.loop-k in
-    TitledAll c.args.titles c.args.given (five l.extraction l.exports l.imports l.returns l.wells)
+    TitledAll c.args.titles c.args.given l.sums
 added c = all_done _ c.loop-k.k _ _ c.loop-k-test.false c.loop-k.invariant.0 c.loop-k.invariant.2
 
 pub aquifers_hold-requires : goal.aquifers_hold-requires

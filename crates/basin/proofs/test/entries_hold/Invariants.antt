@@ -4,7 +4,7 @@ use mathlib.Core.Path.{◌≡◌}
 use mathlib.Core.Bool.{true}
 use lib.ListN.{get_or}
 use Rattle.model.specs.Fresh.{empty_place}
-use Rattle.titles.specs.Titled.{TitledAll, five}
+use Rattle.titles.specs.Titled.{TitledAll}
 use Rattle.basin.specs.Sound.{sound_place}
 use Rattle.basin.proofs.test.entries_hold.Given as goal
 
@@ -12,7 +12,7 @@ abbrev pub invariant-loop-k : goal.invariant-loop-k
 invariant-loop-k l =
     (l.k ≤ l.given)
     × ((j : ℕ) → j < l.k → sound_place l.n l.m (get_or l.titles j empty_place) ≡ true)
-    × TitledAll l.titles l.k (five l.extraction l.exports l.imports l.returns l.wells)
+    × TitledAll l.titles l.k l.sums
 
 abbrev pub decreases-loop-k : goal.decreases-loop-k
 decreases-loop-k l =
