@@ -1,6 +1,6 @@
 -- A title changes the arrays of a balance as it changes its view: one law for + and −. Assumes nothing.
 use Prim.Native.Nat.{ℕ, suc, pred, ◌+◌, ◌-◌, ◌≤◌, ◌<◌}
-use mathlib.Core.Path.{◌≡◌, refl, sym, ap, ◌∙◌}
+use mathlib.Core.Path.{◌≡◌, refl, sym, ap, subst, ◌∙◌}
 use mathlib.Core.Bool.{Bool, true, false}
 use mathlib.Core.List.{List}
 use lib.Dec.{eqb}
@@ -15,15 +15,15 @@ use Rattle.model.specs.declared.Unit.{Unit}
 use Rattle.model.specs.declared.Aquifer.{Aquifer}
 use Rattle.model.specs.declared.Place.{Place}
 use Rattle.model.specs.declared.Title.{Title}
-use Rattle.model.specs.declared.Title.TheVariants.{UnitWithdrawal, UnitTransfer, AquiferTransfer, ReturningWithdrawal}
+use Rattle.model.specs.declared.Title.TheVariants.{UnitWithdrawal, AquiferWithdrawal, UnitTransfer, AquiferTransfer, ReturningWithdrawal}
 use Rattle.model.specs.declared.Balance.{Balance}
 use Rattle.model.specs.Entries.{with_entries, with_extraction, place_of}
 use Rattle.model.specs.Fresh.{empty_unit, empty_aquifer, empty_place}
 use Rattle.model.specs.View.{view_of}
-use Rattle.titles.specs.Posting.{post, posts, postings}
-use Rattle.titles.specs.Adds.{return_of}
+use Rattle.titles.specs.Posting.{nothing, post, posts, postings}
+use Rattle.titles.specs.Adds.{returned, return_of}
 use Rattle.effect.specs.Effect.{changed_by, drawn_by, changed_units, changed_wells, changed_unit, changed_aquifer, changed_view, changed_balance}
-use Rattle.effect.specs.Room.{UnitArrayTakes, WellArrayTakes}
+use Rattle.effect.specs.Room.{Takes, UnitArrayTakes, WellArrayTakes}
 use Rattle.effect.specs.Granted.{granted, posted, lacking, Sized, Grantable}
 use Rattle.effect.specs.Cancelled.{cancelled, title_of, without_title, held, Takable}
 use Rattle.effect.proofs.Taking.{here, elsewhere, takes_past}
@@ -60,53 +60,95 @@ module _ (op : ℕ → ℕ → ℕ) (neutral : (e : ℕ) → op e 0 ≡ e) where
       ∙ set_indexed _ us empty_unit (n - 1)
       (λ k q u. (λ i. changed_by op u (not_at n e k h q i) (not_at n x k h q i) (not_at n m k h q i) (not_at n b k h q i)) ∙ unchanged u)
 
-  -- What the code does to the units for each kind of title.
-  pub withdrawal_changed : (us : List Unit) (u r v back : ℕ) → 0 < u
-      → set us (u - 1) (changed_by op (get_or us (u - 1) empty_unit) v 0 0 back) ≡ changed_units op (UnitWithdrawal u r v) back us
-  withdrawal_changed us u r v back h =
-      unit_at_lem us u v 0 0 back h
-      ∙ (λ i. indexed (λ k w. changed_by op w (posts (post u v) k) (none u k i) (none u k i) (posts (post u back) k)) us)
+  -- The entries of one unit, which are set to what the operation makes of them, are changed by what is posted at its number.
+  set_entries : (us : List Unit) (k n e x m b E X M B : ℕ) → k ≡ n → 0 < n
+      → let w = get_or us (k - 1) empty_unit in
+      E ≡ op w.extraction e → X ≡ op w.exports x → M ≡ op w.imports m → B ≡ op w.returns b
+      → set us (k - 1) (with_entries w E X M B)
+      ≡ indexed (λ j u. changed_by op u (posts (post n e) j) (posts (post n x) j) (posts (post n m) j) (posts (post n b) j)) us
+  set_entries us k n e x m b E X M B q h e-is x-is m-is b-is =
+      (λ i. set us (k - 1) (with_entries (get_or us (k - 1) empty_unit) (e-is i) (x-is i) (m-is i) (b-is i)))
+      ∙ ap (λ (j : ℕ). set us (j - 1) (changed_by op (get_or us (j - 1) empty_unit) e x m b)) q
+      ∙ unit_at_lem us n e x m b h
 
-  pub bringing_changed : (us : List Unit) (a u v back : ℕ) → 0 < u
-      → set us (u - 1) (changed_by op (get_or us (u - 1) empty_unit) 0 0 v 0) ≡ changed_units op (AquiferTransfer a u v) back us
-  bringing_changed us a u v back h =
-      unit_at_lem us u 0 0 v 0 h ∙ (λ i. indexed (λ k w. changed_by op w (none u k i) (none u k i) (posts (post u v) k) (none u k i)) us)
+  -- An entry that is left as it was takes an amount of 0.
+  kept : (e : ℕ) → e ≡ op e 0
+  kept e = sym (neutral e)
 
-  pub returning_changed : (us : List Unit) (a u r v back : ℕ) → 0 < u
-      → set us (u - 1) (changed_by op (get_or us (u - 1) empty_unit) 0 0 0 back) ≡ changed_units op (ReturningWithdrawal a u r v) back us
-  returning_changed us a u r v back h =
-      unit_at_lem us u 0 0 0 back h ∙ (λ i. indexed (λ k w. changed_by op w (none u k i) (none u k i) (none u k i) (posts (post u back) k)) us)
+  -- What the code makes of the units, by the kind of the title. The unit of number n stands at k - 1, where k is the number as an index.
+  module _ (left : ℕ → ℕ) (us : List Unit) (t : Title) (f : UnitArrayTakes left t us) where
+    asked : {kind : Title} → t ≡ kind → UnitArrayTakes left kind us
+    asked e = subst (λ (t : Title). UnitArrayTakes left t us) e f
 
-  pub transfer_changed : (us : List Unit) (g r v back : ℕ) → 0 < g → 0 < r
-      → let given = set us (g - 1) (changed_by op (get_or us (g - 1) empty_unit) 0 v 0 0) in
-      set given (r - 1) (changed_by op (get_or given (r - 1) empty_unit) 0 0 v 0) ≡ changed_units op (UnitTransfer g r v) back us
-  transfer_changed us g r v back h l =
-      unit_at_lem _ r 0 0 v 0 l
-      ∙ (λ i. indexed (λ k w. changed_by op w (none r k i) (none r k i) (posts (post r v) k) (none r k i)) (unit_at_lem us g 0 v 0 0 h i))
-      ∙ indexed_twice _ _ us
-      ∙ (λ i. indexed (λ k w. both k w i) us)
-    where
-      both : (k : ℕ) (w : Unit)
-          → changed_by op (changed_by op w (posts (post g 0) k) (posts (post g v) k) (posts (post g 0) k) (posts (post g 0) k)) 0 0 (posts (post r v) k) 0
-          ≡ changed_unit op (UnitTransfer g r v) back k w
-      both k w =
-          (λ i. changed_by op (changed_by op w (none g k i) (posts (post g v) k) (none g k i) (none g k i)) 0 0 (posts (post r v) k) 0)
-          ∙ (λ i. with_entries w (neutral (op w.extraction 0) i) (neutral (op w.exports (posts (post g v) k)) i)
-          (op (neutral w.imports i) (posts (post r v) k)) (neutral (op w.returns 0) i))
+    told : {kind : Title} → t ≡ kind → changed_units op kind (return_of kind) us ≡ changed_units op t (return_of t) us
+    told e = ap (λ (t : Title). changed_units op t (return_of t) us) (sym e)
 
-  -- A title that posts nothing to the units, or to the aquifers.
-  pub units_unchanged : (us : List Unit) → us ≡ indexed (λ k u. changed_by op u 0 0 0 0) us
-  units_unchanged us = indexed_none _ us (λ k u. unchanged u)
+    pub withdrawal_changed : (k u r v back E B : ℕ) → t ≡ UnitWithdrawal u r v → k ≡ u → back ≡ returned r v
+        → let w = get_or us (k - 1) empty_unit in
+        E ≡ op w.extraction v → B ≡ op w.returns back
+        → set us (k - 1) (with_entries w E w.exports w.imports B) ≡ changed_units op t (return_of t) us
+    withdrawal_changed k u r v back E B e q h e-is b-is =
+        set_entries us k u v 0 0 back E _ _ B q (asked e).extraction.0 e-is (kept _) (kept _) b-is
+        ∙ (λ i. indexed (λ j w. changed_by op w (posts (post u v) j) (none u j i) (none u j i) (posts (post u (h i)) j)) us)
+        ∙ told e
 
-  pub wells_unchanged : (ws : List Aquifer) → ws ≡ indexed (λ k a. drawn_by op a 0) ws
-  wells_unchanged ws = indexed_none _ ws (λ k a. undrawn a)
+    pub pumping_changed : (a v : ℕ) → t ≡ AquiferWithdrawal a v → us ≡ changed_units op t (return_of t) us
+    pumping_changed a v e = indexed_none _ us (λ j u. unchanged u) ∙ told e
 
-  -- What the code does to the aquifers.
-  pub well_changed : (ws : List Aquifer) (n v : ℕ) → 0 < n
-      → set ws (n - 1) (drawn_by op (get_or ws (n - 1) empty_aquifer) v) ≡ indexed (λ k a. drawn_by op a (posts (post n v) k)) ws
-  well_changed ws n v h =
-      (λ i. set ws (n - 1) (drawn_by op (get_or ws (n - 1) empty_aquifer) (at_index n v h i)))
-      ∙ set_indexed _ ws empty_aquifer (n - 1) (λ k q a. (λ i. drawn_by op a (not_at n v k h q i)) ∙ undrawn a)
+    pub transfer_changed : (k l g r v X M : ℕ) → t ≡ UnitTransfer g r v → k ≡ g → l ≡ r
+        → let w = get_or us (k - 1) empty_unit in
+        let given = set us (k - 1) (with_entries w w.extraction X w.imports w.returns) in
+        let z = get_or given (l - 1) empty_unit in
+        X ≡ op w.exports v → M ≡ op z.imports v
+        → set given (l - 1) (with_entries z z.extraction z.exports M z.returns) ≡ changed_units op t (return_of t) us
+    transfer_changed k l g r v X M e q h x-is m-is =
+        set_entries _ l r 0 0 v 0 _ _ M _ h (asked e).imports.0 (kept _) (kept _) m-is (kept _)
+        ∙ (λ i. indexed (λ j w. changed_by op w (none r j i) (none r j i) (posts (post r v) j) (none r j i))
+        (set_entries us k g 0 v 0 0 _ X _ _ q (asked e).exports.0 (kept _) x-is (kept _) (kept _) i))
+        ∙ indexed_twice _ _ us
+        ∙ (λ i. indexed (λ j w. both j w i) us)
+        ∙ told e
+      where
+        both : (j : ℕ) (w : Unit)
+            → changed_by op (changed_by op w (posts (post g 0) j) (posts (post g v) j) (posts (post g 0) j) (posts (post g 0) j)) 0 0 (posts (post r v) j) 0
+            ≡ changed_unit op (UnitTransfer g r v) 0 j w
+        both j w =
+            (λ i. changed_by op (changed_by op w (none g j i) (posts (post g v) j) (none g j i) (none g j i)) 0 0 (posts (post r v) j) 0)
+            ∙ (λ i. with_entries w (neutral (op w.extraction 0) i) (neutral (op w.exports (posts (post g v) j)) i)
+            (op (neutral w.imports i) (posts (post r v) j)) (neutral (op w.returns 0) i))
+
+    pub bringing_changed : (k a u v M : ℕ) → t ≡ AquiferTransfer a u v → k ≡ u
+        → let w = get_or us (k - 1) empty_unit in
+        M ≡ op w.imports v → set us (k - 1) (with_entries w w.extraction w.exports M w.returns) ≡ changed_units op t (return_of t) us
+    bringing_changed k a u v M e q m-is =
+        set_entries us k u 0 0 v 0 _ _ M _ q (asked e).imports.0 (kept _) (kept _) m-is (kept _)
+        ∙ (λ i. indexed (λ j w. changed_by op w (none u j i) (none u j i) (posts (post u v) j) (none u j i)) us)
+        ∙ told e
+
+    pub returning_changed : (k a u r v back B : ℕ) → t ≡ ReturningWithdrawal a u r v → k ≡ u → back ≡ returned r v
+        → let w = get_or us (k - 1) empty_unit in
+        B ≡ op w.returns back → set us (k - 1) (with_entries w w.extraction w.exports w.imports B) ≡ changed_units op t (return_of t) us
+    returning_changed k a u r v back B e q h b-is =
+        set_entries us k u 0 0 0 back _ _ _ B q (asked e).returns.0 (kept _) (kept _) (kept _) b-is
+        ∙ (λ i. indexed (λ j w. changed_by op w (none u j i) (none u j i) (none u j i) (posts (post u (h i)) j)) us)
+        ∙ told e
+
+  -- What the code makes of the aquifers: the title draws from one of them, or from none.
+  pub well_changed : (left : ℕ → ℕ) (ws : List Aquifer) (t : Title) (k n v E : ℕ) → WellArrayTakes left t ws
+      → (postings t (return_of t)).wells ≡ post n v → k ≡ n
+      → let w = get_or ws (k - 1) empty_aquifer in
+      E ≡ op w.extraction v → set ws (k - 1) (with_extraction w E) ≡ changed_wells op t (return_of t) ws
+  well_changed left ws t k n v E f p q e-is =
+      let h = (subst (Takes left 32 (λ j. (get_or ws j empty_aquifer).extraction)) p f).0 in
+      (λ i. set ws (k - 1) (with_extraction (get_or ws (k - 1) empty_aquifer) (e-is i)))
+      ∙ ap (λ (j : ℕ). set ws (j - 1) (drawn_by op (get_or ws (j - 1) empty_aquifer) v)) q
+      ∙ (λ i. set ws (n - 1) (drawn_by op (get_or ws (n - 1) empty_aquifer) (at_index n v h i)))
+      ∙ set_indexed _ ws empty_aquifer (n - 1) (λ j q a. (λ i. drawn_by op a (not_at n v j h q i)) ∙ undrawn a)
+      ∙ (λ i. indexed (λ j a. drawn_by op a (posts (sym p i) j)) ws)
+
+  pub wells_kept : (ws : List Aquifer) (t : Title) → (postings t (return_of t)).wells ≡ nothing → ws ≡ changed_wells op t (return_of t) ws
+  wells_kept ws t p =
+      indexed_none _ ws (λ j a. undrawn a) ∙ (λ i. indexed (λ j a. drawn_by op a (posts (sym p i) j)) ws)
 
   -- The unit, and the aquifer, at an index of the changed arrays.
   module _ (left : ℕ → ℕ) (t : Title) where

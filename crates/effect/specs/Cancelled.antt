@@ -1,5 +1,4 @@
--- A title taken back: every entry lowered by exactly what the title added, and its place kept (document 01, "Titles"; document 02 [2]).
--- Assumes nothing.
+-- A title taken back: every entry lowered by exactly what the title added, and its place kept. Assumes nothing.
 use Rattle.std.specs.Prelude.{ℕ, pred, ◌-◌, false, List, set}
 use Rattle.laws.specs.Table.{put_at}
 use Rattle.model.specs.declared.Unit.{Unit}

@@ -1,4 +1,4 @@
--- A title put in: the entries that it raises, its place and its number (document 01, "Titles"; document 02 [2]). Assumes nothing.
+-- A title put in: the entries that it raises, its place and its number. Assumes nothing.
 use Rattle.std.specs.Prelude.{ℕ, suc, ◌+◌, ◌-◌, ◌<◌, ◌≡◌, true, List, length, set}
 use Rattle.laws.specs.Table.{put_at}
 use Rattle.model.specs.declared.Unit.{Unit}

@@ -1,6 +1,8 @@
 // What a title does to a balance: put in, it raises entries and stands in the next place; taken back, it lowers them by the same.
 #![tactic(auto)]
 
+mod change;
+mod direction;
 mod entering;
 mod leaving;
 
