@@ -1,7 +1,6 @@
 -- A step of the backward pass over the units: a unit's committed volume from its downstream unit's. Assumes nothing.
 use Prim.Native.Nat.{ℕ, pred, ◌+◌, ◌-◌, ◌≤◌, ◌<◌}
 use mathlib.Core.Path.{◌≡◌, sym, ◌∙◌}
-use mathlib.Core.List.{List}
 use lib.ListN.{get_or}
 use native.Mathlib.Omega.{arith}
 use native.Mathlib.Numerals.{sub-one}
@@ -9,6 +8,7 @@ use borrow.Author.Tests.{ne_eqb}
 use Rattle.model.specs.View.{View}
 use Rattle.river.specs.Flow.{downstream, Ready}
 use Rattle.river.specs.Reserve.{inflow, contribution, running_total, committed}
+use Rattle.river.specs.declared.flow.Amounts.{Amounts}
 use Rattle.river.specs.Passes.{running_before, Flows, Splits, from_below}
 use Rattle.river.proofs.Reserves.{Below, contribution_is, running_within, committed_share, splits}
 
@@ -34,10 +34,10 @@ before_is : (v : View) (j : ℕ) → Below v j → running_before v j ≡ runnin
 before_is v j b = rw (ne_eqb (downstream v j) 0 (omega (arith, b.next)))
 
 -- By what the forward pass has left, and the downstream unit's committed volume.
-pub share_of : (v : View) → Ready v → {g l b a : List ℕ} → Flows v g l b a → (j : ℕ) → j < v.units → Below v j → (volume own : ℕ)
-    → volume ≡ committed v (downstream v j - 1) → own ≡ get_or g j 0 - get_or l j 0
-    → Share v j (downstream v j - 1) volume (get_or a (downstream v j - 1) 0) (get_or b j 0) own
-share_of v r f j h d volume own ev eo =
+pub share_of : (v : View) → Ready v → (a : Amounts) → Flows v a → (j : ℕ) → j < v.units → Below v j → (volume own : ℕ)
+    → volume ≡ committed v (downstream v j - 1) → own ≡ get_or a.gained j 0 - get_or a.lost j 0
+    → Share v j (downstream v j - 1) volume (get_or a.arrived (downstream v j - 1) 0) (get_or a.before j 0) own
+share_of v r a f j h d volume own ev eo =
     let own_is : own ≡ contribution v j = omega (arith, f.gained.each j h, f.lost.each j h, contribution_is v j) in
     rw (
       ev,
