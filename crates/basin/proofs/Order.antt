@@ -14,7 +14,7 @@ use Rattle.model.specs.declared.Aquifer.{Aquifer}
 use Rattle.model.specs.declared.Place.{Place}
 use Rattle.model.specs.View.{View}
 use Rattle.river.specs.Flow.{Gathered, Ready}
-use Rattle.river.proofs.Units.{alone, ready_alone, flow_alone}
+use Rattle.river.proofs.Units.{SameUnits, flow_same}
 use Rattle.river.proofs.Flows.{flow_parts}
 use Rattle.titles.specs.Titled.{TitledAll}
 use Rattle.titles.specs.declared.Sums.{Sums}
@@ -54,12 +54,12 @@ few_of v e =
     record { units = leb-true v.units 64 p.0; aquifers = leb-true v.aquifers 32 q.0; given = leb-true v.given 256 q.1 }
 
 -- Units that are sound are ready for the passes over the tree.
-pub entries_ready : (v : View) → Few v → Sound.entries_hold v ≡ true → Ready (alone v)
+pub entries_ready : (v : View) → Few v → Sound.entries_hold v ≡ true → Ready v
 entries_ready v few e =
     let p = both (Sound.sound_titles v) _ e in
     let q = both (Sound.aquifers_hold v) (Sound.units_hold v) p.1 in
     let h = both (Sound.sound_units v) _ q.1 in
-    ready_alone v (ready_of v few.units (λ j g. unit_sound_lem v.units j (v.unit j) (every_each _ v.units h.0 j g)))
+    ready_of v few.units (λ j g. unit_sound_lem v.units j (v.unit j) (every_each _ v.units h.0 j g))
 
 -- A place is as sound as its title if that is in force, and sound otherwise.
 module _ (n m : ℕ) (p : Place) where
@@ -83,11 +83,13 @@ module _ (us : List Unit) (n : ℕ) (ws : List Aquifer) (m : ℕ) (ts : List Pla
   aquifers_hold_lem few = every_both m _ _ _ (λ k h. rw ((t WellExtraction).sums k (omega arith)))
 
 -- No flow is negative where no more is lost than gained at any unit.
-pub none_negative : (v : View) (gained lost : List ℕ) → Gathered (alone v) false gained → Gathered (alone v) true lost
+pub none_negative : (v w : View) → SameUnits v w → (gained lost : List ℕ) → Gathered w false gained → Gathered w true lost
     → Sound.balanced v.units gained lost ≡ Sound.flowing v
-none_negative v gained lost g l =
+none_negative v w s gained lost g l =
     every_same v.units _ _
-    (λ j h. rw (g.each j h, l.each j h) (less_leb (flow_parts (alone v) j)) ∙ ap non_neg (flow_alone v j))
+    (λ j h.
+    let k : j < w.units = omega (arith, s.count) in
+    rw (g.each j k, l.each j k) (less_leb (flow_parts w j)) ∙ ap non_neg (flow_same v w s j h))
 
 -- The tests in the order of the code, and in the order of the definition.
 abbrev pub in_order : View → Bool

@@ -8,6 +8,7 @@ ghost use Rattle.basin.specs.Sound as sounds;
 use crate::cover::{aquifers_hold, units_hold};
 use crate::places::title_sound;
 use model::{Aquifer, Balance, Place, Unit};
+use river::Amounts;
 use titles::Sums;
 
 // The counts are within their limits.
@@ -78,18 +79,11 @@ fn flowing<'a>(n: usize, gained: &'a [u64; Balance::UNITS], lost: &'a [u64; Bala
     true
 }
 
-// The test for 0, with four arrays of zeros for the forward pass over the units. What that leaves in them serves the figures of a sound
-// balance.
-pub fn tested(
-    b: Balance,
-    gained: &mut [u64; Balance::UNITS],
-    lost: &mut [u64; Balance::UNITS],
-    before: &mut [u64; Balance::UNITS],
-    arrived: &mut [u64; Balance::UNITS],
-) -> bool
-    requires { Clear gained.old lost.old before.old arrived.old }
+// The test for 0, with amounts of 0 for the forward pass over the units. What that leaves in them serves the figures of a sound balance.
+pub fn tested(b: Balance, amounts: &mut Amounts) -> bool
+    requires { Clear amounts.old }
     ensures value { result ≡ sounds.sound (view_of b) }
-    ensures arrays_left { sounds.ArraysLeft b gained.new lost.new before.new arrived.new }
+    ensures arrays_left { sounds.ArraysLeft b amounts.new }
 {
     let n = b.unit_count;
     let m = b.aquifer_count;
@@ -103,17 +97,13 @@ pub fn tested(
     if !entries_hold(units, n, aquifers, m, titles, given) {
         return false;
     }
-    river::flow_amounts(units, n, gained, lost, before, arrived);
-    flowing(n, gained, lost)
+    amounts.flow(&units[..n]);
+    flowing(n, &amounts.gained, &amounts.lost)
 }
 
 // A balance is sound if it has none of the faults for which every call first gives 0.
 pub fn sound(b: Balance) -> bool
     ensures { result ≡ sounds.sound (view_of b) }
 {
-    let mut gained = [0u64; Balance::UNITS];
-    let mut lost = [0u64; Balance::UNITS];
-    let mut before = [0u64; Balance::UNITS];
-    let mut arrived = [0u64; Balance::UNITS];
-    tested(b, &mut gained, &mut lost, &mut before, &mut arrived)
+    tested(b, &mut Amounts::none())
 }

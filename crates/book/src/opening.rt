@@ -76,8 +76,7 @@ fn tested(b: Balance, at: usize) -> Opened
     if let Found::At(j) = missing {
         return refused(8, j + 1);
     }
-    let units = b.units;
-    let negative = river::first_negative(units, b.unit_count);
+    let negative = river::first_negative(&b.units[..b.unit_count]);
     if let Found::At(j) = negative {
         return refused(10, j + 1);
     }

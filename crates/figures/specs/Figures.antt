@@ -1,5 +1,5 @@
 -- The figures of a unit and of an aquifer. Assumes nothing.
-use Rattle.std.specs.Prelude.{ℕ, ◌+◌, ◌≤◌, ◌<◌, pos, ◌-ℤ◌, get_or, List}
+use Rattle.std.specs.Prelude.{ℕ, ◌+◌, ◌≤◌, ◌<◌, pos, ◌-ℤ◌, length, get_or, List}
 use Rattle.laws.specs.Signed.{above, below}
 use Rattle.laws.specs.Table.{table}
 use Rattle.model.specs.declared.Aquifer.{Aquifer}
@@ -66,3 +66,7 @@ aquifers_view ws n =
       given = 0;
       place = λ k. empty_place;
     }
+
+-- The view of a list of aquifers, all of which count.
+abbrev pub aquifers_of : List Aquifer → View
+aquifers_of ws = aquifers_view ws (length ws)

@@ -7,7 +7,7 @@ pub use figures::{aquifer_figures, of_aquifer, of_units, unit_figures};
 
 // The four figures of a unit.
 #[repr(C)]
-#[derive(Clone, Copy)]
+#[derive(Clone, Copy, Default)]
 pub struct UnitFigures {
     pub flow: i64,
     pub committed: u64,
@@ -17,7 +17,7 @@ pub struct UnitFigures {
 
 // The two figures of an aquifer.
 #[repr(C)]
-#[derive(Clone, Copy)]
+#[derive(Clone, Copy, Default)]
 pub struct AquiferFigures {
     pub recharge: i64,
     pub availability: i64,

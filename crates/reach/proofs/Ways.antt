@@ -1,19 +1,17 @@
 -- Laws of the ways down a tree: of the outlets and of the units that lie below. Assumes nothing.
-use Prim.Native.Nat.{ℕ, zero, suc, pred, ◌+◌, ◌-◌, ◌≤◌, ◌<◌}
+use Prim.Native.Nat.{ℕ, zero, suc, pred, ◌+◌, ◌≤◌, ◌<◌}
 use mathlib.Core.Path.{◌≡◌, refl, sym, ap, ◌∙◌}
-use mathlib.Core.Logic.{⊎_elim, inl}
+use mathlib.Core.Logic.{⊎_elim}
 use mathlib.Core.Bool.{Bool, true, false, true≢false, ◌||◌}
-use mathlib.Core.List.{List}
 use lib.Dec.{eqb}
 use borrow.Author.Tests.{eq-eqb, ne_eqb}
-use native.Mathlib.Numerals.{sub-one}
 use native.Mathlib.Omega.{arith}
-use Rattle.laws.proofs.Cases.{by_eq, by_lt}
+use Rattle.laws.proofs.Cases.{by_eq}
 use Rattle.model.specs.View.{View}
 use Rattle.river.specs.Flow.{downstream, Ready}
 use Rattle.river.proofs.Reserves.{below_of}
 use Rattle.reach.specs.Reach.{below_to, lies_below, outlet_to, outlet, same_basin}
-use Rattle.reach.specs.Passes.{DownstreamNumbers, listed, TreeNumbers, below_by}
+use Rattle.reach.specs.Passes.{TreeNumbers, below_by}
 
 -- The outlet along a way of any length.
 to_self : (v : View) (way j : ℕ) → downstream v j ≡ 0 → outlet_to v way j ≡ j
@@ -108,25 +106,6 @@ module _ (down : ℕ → ℕ) (n : ℕ) (t : TreeNumbers down n) where
   by_next_of : (u w : ℕ) → u < n → (down u ≡ 0 → ⊥) → below_by down n u w ≡ eqb (pred (down u)) w || below_by down n (pred (down u)) w
   by_next_of u w h e = by_longer n (suc n) u w h (omega arith) (omega arith) ∙ by_next down n u w e
 
-  -- What each step of a way down says: no unit lies below an outlet, the downstream unit does, and another does if it lies below that one.
-  pub by_out : (u w : ℕ) → down u ≡ 0 → below_by down n u w ≡ false
-  by_out u w e = by_none down n u w e
-
-  pub by_hit : (u w : ℕ) → u < n → (down u ≡ 0 → ⊥) → down u - 1 ≡ w → below_by down n u w ≡ true
-  by_hit u w h e g = by_next_of u w h e ∙ hits (pred (down u)) w _ (sym (sub-one (down u)) ∙ g)
-    where
-      hits : (k w : ℕ) (x : Bool) → k ≡ w → eqb k w || x ≡ true
-      hits k w x g = rw (eq-eqb k w g)
-
-  pub by_on : (u w : ℕ) → u < n → (down u ≡ 0 → ⊥) → (down u - 1 ≡ w → ⊥) → below_by down n u w ≡ below_by down n (down u - 1) w
-  by_on u w h e g =
-      by_next_of u w h e
-      ∙ passes (pred (down u)) w _ (λ q. g (sub-one (down u) ∙ q))
-      ∙ ap (λ (k : ℕ). below_by down n k w) (sym (sub-one (down u)))
-    where
-      passes : (k w : ℕ) (x : Bool) → (k ≡ w → ⊥) → eqb k w || x ≡ x
-      passes k w x g = rw (ne_eqb k w g)
-
   -- Numbers that agree within the tree lead the same way.
   by_same : (other : ℕ → ℕ) → ((k : ℕ) → k < n → down k ≡ other k) → (f u w : ℕ) → u < n → below_by down f u w ≡ below_by other f u w
   unfolding below_by
@@ -164,22 +143,11 @@ below_next v r u w h e =
     ∙ by_next_of (downstream v) v.units (ready_tree v r) u w h e
     ∙ ap (λ (x : Bool). eqb (pred (downstream v u)) w || x) (sym (below_by_lem v (pred (downstream v u)) w))
 
--- The downstream numbers of a balance make a tree in an array of 64.
-pub numbers_tree : (v : View) → Ready v → (down : List ℕ) → DownstreamNumbers v down → TreeNumbers (listed down) 64
-numbers_tree v r down d =
-    record {
-      onward = λ k h. by_lt k v.units (λ g. rw (d.each k g) (r.onward k g)) (λ g. inl (d.rest k g));
-      within = λ k h. by_lt k v.units (λ g. omega (arith, d.each k g, r.within k g, r.few)) (λ g. omega (arith, d.rest k g));
-    }
-
--- By those numbers the same units lie below.
-pub numbers_below : (v : View) → Ready v → (down : List ℕ) → DownstreamNumbers v down → (u w : ℕ) → u < v.units
-    → below_by (listed down) 64 u w ≡ lies_below v u w
-numbers_below v r down d u w h =
-    sym
-    (below_by_lem v u w
-    ∙ by_longer (downstream v) v.units (ready_tree v r) v.units 64 u w h (omega arith) (omega (arith, r.few))
-    ∙ by_same (downstream v) v.units (ready_tree v r) (listed down) (λ k g. sym (d.each k g)) 64 u w h)
+-- A step of a way down onto the unit at index k.
+pub below_step : (v : View) → Ready v → (u k w : ℕ) → u < v.units → downstream v u ≡ suc k → lies_below v u w ≡ (eqb k w || lies_below v k w)
+below_step v r u k w h e =
+    let at : pred (downstream v u) ≡ k = omega arith in
+    rw at at (below_next v r u w h (λ g. omega arith))
 
 -- A unit that lies below belongs to the same outlet, and is a later unit of the balance.
 pub record Lower (v : View) (u w : ℕ) : Type 0 where
@@ -209,7 +177,15 @@ to_lower v r (suc f) u w h t =
 pub below_outlet : (v : View) → Ready v → (u w : ℕ) → u < v.units → lies_below v u w ≡ true → Lower v u w
 below_outlet v r u w h t = to_lower v r v.units u w h (sym (below_by_lem v u w) ∙ t)
 
--- Two views with the same downstream numbers have the same outlets.
+-- In two views with the same downstream numbers the same units lie below, and the outlets are the same.
+pub below_same : (v w : View) → Ready v → w.units ≡ v.units → ((k : ℕ) → k < v.units → downstream w k ≡ downstream v k)
+    → (u x : ℕ) → u < v.units → lies_below w u x ≡ lies_below v u x
+below_same v w r n s u x h =
+    below_by_lem w u x
+    ∙ ap (λ (m : ℕ). below_by (downstream w) m u x) n
+    ∙ sym (by_same (downstream v) v.units (ready_tree v r) (downstream w) (λ k g. sym (s k g)) v.units u x h)
+    ∙ sym (below_by_lem v u x)
+
 to_same : (v w : View) → Ready v → ((k : ℕ) → k < v.units → downstream w k ≡ downstream v k)
     → (f j : ℕ) → j < v.units → outlet_to w f j ≡ outlet_to v f j
 unfolding outlet_to

@@ -2,18 +2,7 @@
 use Rattle.std.specs.Prelude.{ℕ, zero, suc, pred, ◌≤◌, ◌<◌, ◌≡◌, ◌⊎◌, Bool, false, cond, ◌||◌, List, eqb, length, get_or}
 use Rattle.model.specs.View.{View}
 use Rattle.model.specs.Limits.{unit_limit}
-use Rattle.river.specs.Flow.{downstream}
 use Rattle.reach.specs.Reach.{outlet}
-
--- The downstream number of each unit, and 0 in the unused places.
-pub record DownstreamNumbers (v : View) (r : List ℕ) : Type 0 where
-  pub long : length r ≡ unit_limit
-  pub each : (j : ℕ) → j < v.units → get_or r j 0 ≡ downstream v j
-  pub rest : (j : ℕ) → v.units ≤ j → get_or r j 0 ≡ 0
-
--- The downstream numbers that a list holds.
-abbrev pub listed : List ℕ → ℕ → ℕ
-listed down k = get_or down k 0
 
 -- Downstream numbers that make a tree of n units: each is 0 or above its own unit's number, and at most n.
 pub record TreeNumbers (down : ℕ → ℕ) (n : ℕ) : Type 0 where

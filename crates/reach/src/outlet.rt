@@ -1,28 +1,21 @@
 // Which outlet a unit drains to.
 ghost use Rattle.river.specs.Flow.{Ready};
-ghost use Rattle.river.specs.Units.{units_view};
+ghost use Rattle.river.specs.Units.{units_of};
 ghost use Rattle.reach.specs.Passes.{Outlets};
 
 use model::{Balance, Unit};
 
 // Backward over the units: an outlet is its own, another unit's outlet is its downstream unit's.
-pub fn outlets(units: [Unit; Balance::UNITS], n: usize) -> [usize; Balance::UNITS]
-    requires { Ready (units_view units n) }
-    ensures { Outlets (units_view units n) result }
+pub fn outlets(units: &[Unit]) -> [usize; Balance::UNITS]
+    requires { Ready (units_of units.now) }
+    ensures { Outlets (units_of units.now) result }
 {
-    let mut ends = [0usize; Balance::UNITS];
-    let mut i = n;
-    while 0 < i {
-        i -= 1;
-        let u = units[i];
-        let d = u.downstream as usize;
-        if 0 < d {
-            let k = d - 1;
-            let below = ends[k];
-            ends[i] = below;
-        } else {
-            ends[i] = i;
-        }
+    let mut ends = [0; Balance::UNITS];
+    for i in (0..units.len()).rev() {
+        ends[i] = match usize::from(units[i].downstream).checked_sub(1) {
+            None => i,
+            Some(k) => ends[k],
+        };
     }
     ends
 }

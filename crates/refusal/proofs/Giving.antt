@@ -5,18 +5,21 @@ use mathlib.Core.Bool.{Bool, cond, not, ◌&&◌, ◌||◌}
 use lib.Dec.{eqb}
 use native.Mathlib.Omega.{arith}
 use Rattle.laws.specs.Sum.{every}
+use Rattle.laws.proofs.Every.{every_same}
+use Rattle.reach.specs.Reach.{same_basin}
 use Rattle.model.specs.declared.Aquifer.{Aquifer}
 use Rattle.model.specs.declared.Place.{Place}
 use Rattle.model.specs.declared.Title.{Title}
 use Rattle.model.specs.declared.Title.TheVariants.{UnitWithdrawal, AquiferWithdrawal, UnitTransfer, AquiferTransfer, ReturningWithdrawal}
 use Rattle.model.specs.Fresh.{empty_place}
 use Rattle.model.specs.View.{View}
-use Rattle.river.proofs.Units.{alone}
-use Rattle.figures.proofs.Units.{unit_figures_alone}
-use Rattle.reach.proofs.Units.{outlet_alone, below_alone}
+use Rattle.river.specs.Flow.{Ready}
+use Rattle.river.proofs.Units.{alone, SameUnits}
+use Rattle.figures.proofs.Units.{unit_figures_alone, unit_figures_same}
+use Rattle.reach.proofs.Units.{outlet_alone, below_alone, outlet_units, below_units}
 use Rattle.basin.specs.Sound.{exists}
 use Rattle.effect.specs.Granted.{Named}
-use Rattle.refusal.specs.Grant.{in_deficit, dry, drained, no_water, downstream_transfer, overfull}
+use Rattle.refusal.specs.Grant.{in_deficit, wanting, dry, drained, no_water, downstream_transfer, overfull}
 use Rattle.refusal.specs.Steps.{giving_unit, giving_aquifer, volume_number, early_number}
 
 -- What is worked out over the units of a view alone is the same over the view.
@@ -26,6 +29,18 @@ dry_alone v j = λ i.
 
 pub downstream_alone : (v : View) (g r : ℕ) → downstream_transfer (alone v) g r ≡ downstream_transfer v g r
 downstream_alone v g r = λ i. eqb g r || below_alone v (pred g) (pred r) i
+
+-- So it is over views with the same units.
+module _ (v w : View) (s : SameUnits v w) (r : Ready v) where
+  pub dry_same : (j : ℕ) → j < v.units → dry w j ≡ dry v j
+  dry_same j h =
+      ap (λ (n : ℕ). not (every n (λ k. not (same_basin w j k && wanting w k)))) s.count
+      ∙ ap not
+      (every_same v.units _ _
+      (λ k g i. not (eqb (outlet_units v w s r k g i) (outlet_units v w s r j h i) && in_deficit (unit_figures_same v w s r k g i))))
+
+  pub downstream_same : (g t : ℕ) → pred g < v.units → downstream_transfer w g t ≡ downstream_transfer v g t
+  downstream_same g t h = ap (λ (b : Bool). eqb g t || b) (below_units v w s r (pred g) (pred t) h)
 
 -- A view with other aquifers and titles.
 abbrev with_others : View → ℕ → (ℕ → Aquifer) → (ℕ → Place) → View

@@ -1,9 +1,9 @@
 // What a grant refuses before its water is looked at: 12 to 16 and 18; 0 where none of them applies.
-ghost use Rattle.std.specs.Prelude.{◌≡◌, ◌||◌, ◌≤◌, ◌<◌, ◌+◌, []};
+ghost use Rattle.std.specs.Prelude.{◌≡◌, ◌||◌, ◌≤◌, ◌<◌, ◌+◌, [], length};
 ghost use Rattle.model.specs.declared.Title.TheVariants.{UnitWithdrawal, AquiferWithdrawal, UnitTransfer, AquiferTransfer, ReturningWithdrawal};
 ghost use Rattle.model.specs.Limits.{unit_limit, aquifer_limit};
 ghost use Rattle.river.specs.Flow.{Ready};
-ghost use Rattle.river.specs.Units.{units_view};
+ghost use Rattle.river.specs.Units.{units_view, units_of};
 ghost use Rattle.refusal.specs.Grant as grants;
 ghost use Rattle.refusal.specs.Steps as steps;
 ghost use Rattle.refusal.specs.Steps.{entries_view};
@@ -157,16 +157,16 @@ fn returning_number(
 }
 
 // 18 same unit, or the receiver lies below the giver.
-fn is_downstream(units: [Unit; Balance::UNITS], n: usize, from: u8, to: u8) -> bool
-    requires { Ready (units_view units n) × (0 < from) × (from ≤ n) × (0 < to) }
-    ensures { result ≡ grants.downstream_transfer (units_view units n) from to }
+fn is_downstream(units: &[Unit], from: u8, to: u8) -> bool
+    requires { Ready (units_of units.now) × (0 < from) × (from ≤ length units.now) × (0 < to) }
+    ensures { result ≡ grants.downstream_transfer (units_of units.now) from to }
 {
     if from == to {
         return true;
     }
     let g = (from as usize) - 1;
     let k = (to as usize) - 1;
-    reach::lies_below(units, n, g, k)
+    reach::lies_below(units, g, k)
 }
 
 // TU: 12, 18, 14 to 16.
@@ -183,7 +183,7 @@ fn transfer_number(
 {
     if exists(n, from) {
         if exists(n, to) {
-            if is_downstream(units, n, from, to) {
+            if is_downstream(&units[..n], from, to) {
                 return 18;
             }
             let g = (from as usize) - 1;

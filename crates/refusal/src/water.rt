@@ -1,10 +1,10 @@
 // 17 no water, in a balance with the title in.
-ghost use Rattle.std.specs.Prelude.{◌≡◌, not, ◌≤◌, ◌<◌};
+ghost use Rattle.std.specs.Prelude.{◌≡◌, not, ◌≤◌, ◌<◌, length};
 ghost use Rattle.std.specs.Int.Signed.{non_neg};
 ghost use Rattle.laws.specs.Signed.{above, below};
 ghost use Rattle.model.specs.Limits.{unit_limit, term_limit};
 ghost use Rattle.river.specs.Flow.{Ready};
-ghost use Rattle.river.specs.Units.{units_view};
+ghost use Rattle.river.specs.Units.{units_view, units_of};
 ghost use Rattle.river.specs.Wells.{well_availability};
 ghost use Rattle.figures.specs.Figures.{WellsReady, aquifers_view};
 ghost use Rattle.refusal.specs.Grant as grants;
@@ -51,13 +51,13 @@ fn dry_by(
 }
 
 // The outlet of the unit at an index, or some unit that drains there, has a negative flow or a negative availability.
-fn dry(units: [Unit; Balance::UNITS], n: usize, j: usize) -> bool
-    requires { Ready (units_view units n) × (j < n) }
-    ensures { result ≡ grants.dry (units_view units n) j }
+fn dry(units: &[Unit], j: usize) -> bool
+    requires { Ready (units_of units.now) × (j < length units.now) }
+    ensures { result ≡ grants.dry (units_of units.now) j }
 {
-    let ends = reach::outlets(units, n);
+    let ends = reach::outlets(units);
     let outlet = ends[j];
-    dry_by(figures::of_units(units, n), ends, n, outlet)
+    dry_by(figures::of_units(units), ends, units.len(), outlet)
 }
 
 // An aquifer with a negative availability.
@@ -65,7 +65,7 @@ fn drained(a: Aquifer) -> bool
     requires { (above a.storage ≤ term_limit) × (below a.storage ≤ term_limit) }
     ensures { result ≡ not (non_neg (well_availability a)) }
 {
-    let w = figures::of_aquifer(a);
+    let w = figures::of_aquifer(&a);
     w.availability < 0
 }
 
@@ -145,7 +145,7 @@ pub fn no_water(
 {
     let u = giving_unit(t) as usize;
     if 0 < u {
-        return dry(units, n, u - 1);
+        return dry(&units[..n], u - 1);
     }
     let k = (giving_aquifer(t) as usize) - 1;
     let a = aquifers[k];

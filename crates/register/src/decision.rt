@@ -40,7 +40,7 @@ fn needed(units: [Unit; Balance::UNITS], n: usize, t: Title) -> bool
     ensures { result ≡ not (sounds.flowing (units_view (lowered_units t units) n)) }
 {
     let less = effect::lowered_units(units, t);
-    match river::first_negative(less, n) {
+    match river::first_negative(&less[..n]) {
         Found::Nothing => false,
         Found::At(_) => true,
     }

@@ -1,6 +1,6 @@
 -- What a place gathers depends only on the places at or above it. Assumes nothing.
 use Prim.Native.Nat.{ℕ, zero, suc, ◌+◌, ◌≤◌, ◌<◌}
-use mathlib.Core.Path.{◌≡◌, refl, ap, ◌∙◌}
+use mathlib.Core.Path.{◌≡◌, refl, ap, ap₂, ◌∙◌}
 use mathlib.Core.Bool.{Bool, true, false}
 use lib.Dec.{eqb}
 use lib.IntN.{ℤ, pos, ◌+ℤ◌}
@@ -45,21 +45,22 @@ module _ {A B C : Type 0} (P : Adding A) (Q : Adding B) (S : Adding C) (R : A �
         unfolding gather
         local_gather j h i r = local_to j j h i r
 
--- What is gathered by downstream numbers that agree before a place.
-same_to : {A : Type 0} (P : Adding A) (down other : ℕ → ℕ) (x : ℕ → A) (depth j : ℕ) → ((k : ℕ) → k < j → down k ≡ other k)
-    → gather_to P down x depth j ≡ gather_to P other x depth j
+-- What a place gathers by downstream numbers and amounts that agree at the places before it and at itself.
+same_to : {A : Type 0} (P : Adding A) (down other : ℕ → ℕ) (x y : ℕ → A) (depth j : ℕ) → ((k : ℕ) → k < j → down k ≡ other k)
+    → ((k : ℕ) → k ≤ j → x k ≡ y k) → gather_to P down x depth j ≡ gather_to P other y depth j
 unfolding gather_to
-same_to P down other x zero j s = refl
-same_to {A} P down other x (suc d) j s =
-    ap (λ (a : A). P.plus a (x j))
+same_to P down other x y zero j s e = ap (P.plus P.none) (e j (le_refl j))
+same_to {A} P down other x y (suc d) j s e =
+    ap₂ P.plus
     (sum_same P j _ _
     (λ k h. ap (λ (m : ℕ). only P (eqb m (suc j)) (gather_to P down x d k)) (s k h)
-    ∙ ap (only P (eqb (other k) (suc j))) (same_to P down other x d k (λ l g. s l (omega arith)))))
+    ∙ ap (only P (eqb (other k) (suc j))) (same_to P down other x y d k (λ l g. s l (omega arith)) (λ l g. e l (omega arith)))))
+    (e j (le_refl j))
 
-same_gather : {A : Type 0} (P : Adding A) (down other : ℕ → ℕ) (x : ℕ → A) (j : ℕ) → ((k : ℕ) → k < j → down k ≡ other k)
-    → gather P down x j ≡ gather P other x j
+pub same_gather : {A : Type 0} (P : Adding A) (down other : ℕ → ℕ) (x y : ℕ → A) (j : ℕ) → ((k : ℕ) → k < j → down k ≡ other k)
+    → ((k : ℕ) → k ≤ j → x k ≡ y k) → gather P down x j ≡ gather P other y j
 unfolding gather
-same_gather P down other x j s = same_to P down other x j j s
+same_gather P down other x y j s e = same_to P down other x y j j s e
 
 -- One integer is at most another, by their parts.
 abbrev AtMost : ℤ → ℤ → ℤ → Type 0
@@ -77,7 +78,7 @@ pub flow_local : (v w : View) → ((k : ℕ) → k < v.units → downstream w k 
     → (j : ℕ) → j < v.units → In j → flow v j ≤ℤ flow w j
 unfolding flow
 flow_local v w s In up m j h i =
-    rw (same_gather integers (downstream w) (downstream v) (λ k. net (w.unit k)) j (λ k g. s k (omega arith)))
+    rw (same_gather integers (downstream w) (downstream v) (λ k. net (w.unit k)) _ j (λ k g. s k (omega arith)) (λ k g. refl))
     (parts_le _ _
     (local_gather integers integers integers AtMost (le_refl 0) (λ a a' b b' c c' p q. plus_at_most a a' b b' p q)
     (downstream v) v.units In up (λ k. net (v.unit k)) (λ k. net (w.unit k)) (λ k. pos 0) j h i

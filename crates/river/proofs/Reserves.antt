@@ -102,12 +102,12 @@ above_within : (v : View) (j D : ℕ) → Below v j → share_above v (pred (dow
 above_within v j D b = share_within D (total v (pred (downstream v j))) (running_total v (pred (downstream v j)) j) (contribution v j) (running_within v j b)
 
 -- Of an outlet, and of another unit, along a way of any length.
-to_outlet : (v : View) (way j : ℕ) → downstream v j ≡ 0 → committed_to v way j ≡ (v.unit j).commitment
+pub to_outlet : (v : View) (way j : ℕ) → downstream v j ≡ 0 → committed_to v way j ≡ (v.unit j).commitment
 unfolding committed_to
 to_outlet v zero j e = refl
 to_outlet v (suc way) j e = rw (eq-eqb (downstream v j) 0 e)
 
-to_next : (v : View) (way j : ℕ) → (downstream v j ≡ 0 → ⊥)
+pub to_next : (v : View) (way j : ℕ) → (downstream v j ≡ 0 → ⊥)
     → committed_to v (suc way) j
     ≡ share_above v (pred (downstream v j)) (demand (v.unit (pred (downstream v j))) (committed_to v way (pred (downstream v j)))) j
 unfolding committed_to

@@ -3,6 +3,7 @@ use Rattle.std.specs.Prelude.{ℕ, pred, ◌+◌, ◌≤◌, ◌<◌, ◌≡◌,
 use Rattle.model.specs.declared.Unit.{Unit}
 use Rattle.model.specs.View.{View}
 use Rattle.model.specs.Limits.{unit_limit}
+use Rattle.river.specs.declared.flow.Amounts.{Amounts}
 use Rattle.river.specs.Flow.{downstream, Gathered}
 use Rattle.river.specs.Reserve.{inflow, demand, share, running_total}
 use Rattle.river.specs.Limits.{committed_limit, split_limit}
@@ -20,19 +21,19 @@ pub record RunningTotals (v : View) (before arrived : List ℕ) : Type 0 where
   pub rest_before : (j : ℕ) → v.units ≤ j → get_or before j 0 ≡ 0
   pub rest_arrived : (w : ℕ) → v.units ≤ w → get_or arrived w 0 ≡ 0
 
--- The four arrays that the forward pass fills, before it: 0 in every place.
-pub record Clear (g l b a : List ℕ) : Type 0 where
-  pub gained : g ≡ replicate unit_limit 0
-  pub lost : l ≡ replicate unit_limit 0
-  pub before : b ≡ replicate unit_limit 0
-  pub arrived : a ≡ replicate unit_limit 0
+-- The amounts that the forward pass works out, before it: 0 in every place.
+pub record Clear (a : Amounts) : Type 0 where
+  pub gained : a.gained ≡ replicate unit_limit 0
+  pub lost : a.lost ≡ replicate unit_limit 0
+  pub before : a.before ≡ replicate unit_limit 0
+  pub arrived : a.arrived ≡ replicate unit_limit 0
 
 -- The reply of the forward pass: all that is gained and lost at each unit and above it, the running total before it at its downstream
 -- unit, and the total of the units that drain straight into it; 0 in the unused places.
-pub record Flows (v : View) (g l b a : List ℕ) : Type 0 where
-  pub gained : Gathered v false g
-  pub lost : Gathered v true l
-  pub totals : RunningTotals v b a
+pub record Flows (v : View) (a : Amounts) : Type 0 where
+  pub gained : Gathered v false a.gained
+  pub lost : Gathered v true a.lost
+  pub totals : RunningTotals v a.before a.arrived
 
 -- A demand and its running totals that are small enough to be split: the demand of a unit with so much committed, and the total of so
 -- much arrived and its own inflow.

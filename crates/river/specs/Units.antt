@@ -1,5 +1,5 @@
 -- The units of a view, and nothing else. Assumes nothing.
-use Rattle.std.specs.Prelude.{ℕ, List, get_or}
+use Rattle.std.specs.Prelude.{ℕ, List, length, get_or}
 use Rattle.model.specs.declared.Unit.{Unit}
 use Rattle.model.specs.Fresh.{empty_unit, empty_aquifer, empty_place}
 use Rattle.model.specs.View.{View}
@@ -15,3 +15,7 @@ units_view us n =
       given = 0;
       place = λ k. empty_place;
     }
+
+-- The view of a list of units, all of which count.
+abbrev pub units_of : List Unit → View
+units_of us = units_view us (length us)

@@ -2,60 +2,75 @@
 ghost use Rattle.std.specs.Prelude.{◌≡◌};
 ghost use Rattle.river.specs.Flow as river;
 ghost use Rattle.river.specs.Flow.{Ready};
-ghost use Rattle.river.specs.Passes.{Clear, Flows};
-ghost use Rattle.river.specs.Units.{units_view};
+ghost use Rattle.river.specs.Units.{units_of};
 
 use crate::reserve::contribution;
 use model::{Balance, Unit};
 
 // What a unit gains: natural runoff, returns, imports and the fall of its storage.
-pub fn gain(u: Unit) -> u64
-    requires { river.Small u }
-    ensures { result ≡ river.gain u }
+pub fn gain(u: &Unit) -> u64
+    requires { river.Small u.now }
+    ensures { result ≡ river.gain u.now }
 {
-    let storage = u.storage;
-    (u.runoff as u64) + (u.returns as u64) + (u.imports as u64) + laws::below(storage)
+    u64::from(u.runoff) + u64::from(u.returns) + u64::from(u.imports) + laws::below(u.storage)
 }
 
 // What a unit loses: exports, extraction, evaporation and the rise of its storage.
-pub fn loss(u: Unit) -> u64
-    requires { river.Small u }
-    ensures { result ≡ river.loss u }
+pub fn loss(u: &Unit) -> u64
+    requires { river.Small u.now }
+    ensures { result ≡ river.loss u.now }
 {
-    let storage = u.storage;
-    (u.exports as u64) + (u.extraction as u64) + (u.evaporation as u64) + laws::above(storage)
+    u64::from(u.exports)
+        + u64::from(u.extraction)
+        + u64::from(u.evaporation)
+        + laws::above(u.storage)
 }
 
-// Forward over the units: all that is gained and lost at each unit and above it goes on to its downstream unit, and its contribution is
-// added to what has arrived there.
-pub fn flow_amounts(
-    units: [Unit; Balance::UNITS],
-    n: usize,
-    gained: &mut [u64; Balance::UNITS],
-    lost: &mut [u64; Balance::UNITS],
-    before: &mut [u64; Balance::UNITS],
-    arrived: &mut [u64; Balance::UNITS],
-)
-    requires ready { Ready (units_view units n) }
-    requires clear { Clear gained.old lost.old before.old arrived.old }
-    ensures { Flows (units_view units n) gained.new lost.new before.new arrived.new }
-{
-    let mut i = 0;
-    while i < n {
-        let u = units[i];
-        let more = gained[i] + gain(u);
-        let less = lost[i] + loss(u);
-        gained[i] = more;
-        lost[i] = less;
-        let d = u.downstream as usize;
-        if 0 < d {
-            let k = d - 1;
-            gained[k] = gained[k] + more;
-            lost[k] = lost[k] + less;
-            let found = arrived[k];
-            before[i] = found;
-            arrived[k] = found + contribution(more, less);
+// What the forward pass over the units works out, with 0 in the unused places.
+#[derive(Clone, Copy)]
+pub struct Amounts {
+    // All that is gained, and lost, at each unit and above it.
+    pub gained: [u64; Balance::UNITS],
+    pub lost: [u64; Balance::UNITS],
+    // The running total of contributions at a unit's downstream unit before its own.
+    pub before: [u64; Balance::UNITS],
+    // The total that the units which drain straight into a unit contribute to it.
+    pub arrived: [u64; Balance::UNITS],
+}
+
+impl Amounts {
+    ghost use Rattle.river.specs.Passes.{Clear, Flows};
+
+    // 0 in every place.
+    pub fn none() -> Self
+        ensures { Clear result }
+    {
+        Amounts {
+            gained: [0; Balance::UNITS],
+            lost: [0; Balance::UNITS],
+            before: [0; Balance::UNITS],
+            arrived: [0; Balance::UNITS],
         }
-        i += 1;
+    }
+
+    // Forward over the units: all that is gained and lost at each unit and above it goes on to its downstream unit, and its contribution
+    // is added to what has arrived there.
+    pub fn flow(&mut self, units: &[Unit])
+        requires ready { Ready (units_of units.now) }
+        requires clear { Clear self.old }
+        ensures { Flows (units_of units.now) self.new }
+    {
+        for (i, u) in units.iter().enumerate() {
+            let more = self.gained[i] + gain(u);
+            let less = self.lost[i] + loss(u);
+            self.gained[i] = more;
+            self.lost[i] = less;
+            if let Some(k) = usize::from(u.downstream).checked_sub(1) {
+                self.gained[k] += more;
+                self.lost[k] += less;
+                self.before[i] = self.arrived[k];
+                self.arrived[k] += contribution(more, less);
+            }
+        }
     }
 }

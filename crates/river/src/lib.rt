@@ -5,6 +5,6 @@ mod flow;
 mod reserve;
 mod search;
 
-pub use flow::flow_amounts;
+pub use flow::Amounts;
 pub use reserve::{contribution, from_below, from_own};
 pub use search::first_negative;

@@ -10,25 +10,22 @@ use model::Unit;
 pub fn contribution(gained: u64, lost: u64) -> u64
     ensures { result ≡ gained - lost }
 {
-    if gained < lost {
-        return 0;
-    }
-    gained - lost
+    gained.saturating_sub(lost)
 }
 
 // What a unit contributes to itself: natural runoff, returns and imports.
-fn inflow(u: Unit) -> u64
-    ensures { result ≡ reserves.inflow u }
+fn inflow(u: &Unit) -> u64
+    ensures { result ≡ reserves.inflow u.now }
 {
-    (u.runoff as u64) + (u.returns as u64) + (u.imports as u64)
+    u64::from(u.runoff) + u64::from(u.returns) + u64::from(u.imports)
 }
 
 // A unit's demand: extraction, exports and committed volume.
-fn demand(u: Unit, committed: u64) -> u64
+fn demand(u: &Unit, committed: u64) -> u64
     requires { committed ≤ committed_limit }
-    ensures { result ≡ reserves.demand u committed }
+    ensures { result ≡ reserves.demand u.now committed }
 {
-    (u.extraction as u64) + (u.exports as u64) + committed
+    u64::from(u.extraction) + u64::from(u.exports) + committed
 }
 
 // The floor of what so much contributed gets of a demand. Where nothing is contributed the division is spared.
@@ -73,18 +70,18 @@ fn share_own(demand: u64, total: u64, before: u64) -> u64
 }
 
 // What a unit above gets of the demand of unit w, which has so much committed and to which so much has arrived.
-pub fn from_below(w: Unit, committed: u64, arrived: u64, before: u64, own: u64) -> u64
-    requires splits { Splits w committed arrived }
-    requires own_bound { before + own ≤ arrived + reserves.inflow w }
-    ensures { result ≡ from_below w committed arrived before own }
+pub fn from_below(w: &Unit, committed: u64, arrived: u64, before: u64, own: u64) -> u64
+    requires splits { Splits w.now committed arrived }
+    requires own_bound { before + own ≤ arrived + reserves.inflow w.now }
+    ensures { result ≡ from_below w.now committed arrived before own }
 {
     share_above(demand(w, committed), arrived + inflow(w), before, own)
 }
 
 // What unit u gets of its own demand.
-pub fn from_own(u: Unit, committed: u64, arrived: u64) -> u64
-    requires { Splits u committed arrived }
-    ensures { result ≡ from_own u committed arrived }
+pub fn from_own(u: &Unit, committed: u64, arrived: u64) -> u64
+    requires { Splits u.now committed arrived }
+    ensures { result ≡ from_own u.now committed arrived }
 {
     share_own(demand(u, committed), arrived + inflow(u), arrived)
 }

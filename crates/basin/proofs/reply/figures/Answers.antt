@@ -1,10 +1,14 @@
 -- `basin::figures` meets its contract. Assumes nothing.
-use mathlib.Core.Path.{◌≡◌, ◌∙◌}
+use Prim.Native.Nat.{◌≤◌}
+use mathlib.Core.Path.{◌≡◌, refl, ◌∙◌}
+use lib.ListN.{length, take}
+use native.Mathlib.Omega.{arith}
 use mathlib.Core.Bool.{true}
 use Rattle.model.specs.View.{view_of}
-use Rattle.river.proofs.Units.{ready_alone}
-use Rattle.figures.proofs.Units.{figures_alone}
-use Rattle.figures.proofs.Aquifers.{wells_alone}
+use Rattle.river.specs.Units.{units_of}
+use Rattle.river.proofs.Units.{SameUnits, counted_units, ready_same}
+use Rattle.figures.proofs.Units.{figures_same}
+use Rattle.figures.proofs.Aquifers.{wells_counted, wells_same}
 use Rattle.basin.specs.Sound.{sound}
 use Rattle.basin.proofs.Chains.{call_holds, call_fails}
 use Rattle.basin.proofs.Order.{sound_workable}
@@ -21,20 +25,36 @@ returns-then-not-tested c =
 is-sound : (c : Else-not-tested) → sound (view_of c.args.b) ≡ true
 is-sound c = call_holds c.tested.ensures.value c.if-not-tested.false
 
+-- The counted units and aquifers are those of the balance.
+same : (c : Else-not-tested) → SameUnits (view_of c.args.b) (units_of (take c.args.b.unit_count c.args.b.units))
+same c = counted_units (view_of c.args.b) c.args.b.units (omega (arith, (sound_ready _ (is-sound c)).few)) (λ k h. refl)
+
+enough : (c : Else-not-tested) → c.args.b.aquifer_count ≤ length c.args.b.aquifers
+enough c = omega (arith, (sound_wells_ready _ (is-sound c)).few)
+
+pub shared_ref_as_front-units : goal.shared_ref_as_front-units
+shared_ref_as_front-units c = omega (arith, (sound_ready _ (is-sound (goal.at.shared_ref_as_front-units c).Else-not-tested)).few)
+
+pub shared_ref_as_front-aquifers : goal.shared_ref_as_front-aquifers
+shared_ref_as_front-aquifers c =
+    omega (arith, (sound_wells_ready _ (is-sound (goal.at.shared_ref_as_front-aquifers c).Else-not-tested)).few)
+
 pub unit_figures-requires : goal.unit_figures-requires
 unit_figures-requires c =
-    let else = c in
+    let here = (goal.at.unit_figures-requires c).Else-not-tested in
     record {
-      ready = ready_alone _ (sound_ready _ (is-sound (goal.at.unit_figures-requires else).Else-not-tested));
-      flows = else.tested.ensures.arrays_left.passed (sound_workable _ (is-sound (goal.at.unit_figures-requires else).Else-not-tested));
+      ready = ready_same _ _ (same here) (sound_ready _ (is-sound here));
+      flows = c.tested.ensures.arrays_left.passed (sound_workable _ (is-sound here));
     }
 
 pub aquifer_figures-requires : goal.aquifer_figures-requires
 aquifer_figures-requires c =
-    let else = c in
-    wells_alone else.args.b (sound_wells_ready _ (is-sound (goal.at.aquifer_figures-requires else).Else-not-tested))
+    let here = (goal.at.aquifer_figures-requires c).Else-not-tested in
+    wells_counted (view_of c.args.b) c.args.b.aquifers (enough here) (λ k h. refl) (sound_wells_ready _ (is-sound here))
 
 pub returns : goal.returns
 returns c =
-    accepted_reply _ _ _ (is-sound (goal.at.returns c).Else-not-tested)
-    (c.unit_figures.ensures ∙ figures_alone _) c.aquifer_figures.ensures
+    let here = (goal.at.returns c).Else-not-tested in
+    accepted_reply _ _ _ (is-sound here) (c.unit_figures.ensures ∙ figures_same _ _ (same here) (sound_ready _ (is-sound here)))
+    (c.aquifer_figures.ensures
+    ∙ wells_same (view_of c.args.b) c.args.b.aquifers (enough here) (λ k h. refl) (sound_wells_ready _ (is-sound here)))

@@ -1,40 +1,29 @@
 -- `reach::outlets` meets its contract. Assumes nothing.
-use Rattle.std.proofs.Common.{arith, sym, ◌≡◌, ◌∙◌, ◌-◌, ◌<◌, suc, pred}
-use native.Mathlib.Numerals.{sub-one}
+use Rattle.std.proofs.Common.{◌≡◌, ◌<◌, ◌-◌, suc, sym, ◌∙◌, length, arith}
 use Rattle.laws.proofs.Arrays.{filled_down_start, filled_down_more}
 use Rattle.river.specs.Flow.{downstream}
-use Rattle.river.specs.Units.{units_view}
-use Rattle.river.proofs.Reserves.{below_of}
+use Rattle.river.specs.Units.{units_of}
+use Rattle.river.proofs.Passing.{onward_of}
 use Rattle.reach.specs.Reach.{outlet}
-use Rattle.reach.proofs.Ways.{outlet_self, outlet_next}
+use Rattle.reach.proofs.Ways.{outlet_self, upstream_same}
 use Rattle.reach.proofs.outlet.outlets.Goals as goal
+use Rattle.reach.proofs.outlet.outlets.Goals.{in-None, in-Some}
 
 pub loop-i-init : goal.loop-i-init
-loop-i-init c = (omega arith, filled_down_start 64 0 _ _)
-
-pub loop-i-preserved-then-d-gt0 : goal.loop-i-preserved-then-d-gt0
-loop-i-preserved-then-d-gt0 c =
-    let v = units_view c.args.units c.args.n in
-    let loop = c.loop-i in
-    let j = loop.i - 1 in
-    let h : j < v.units = omega (arith, loop.invariant.0, c.loop-i-test.true) in
-    let b = below_of v c.requires j h (omega (arith, c.if-d-gt0.true)) in
-    let e : loop.i ≡ suc j = omega (arith, c.loop-i-test.true) in (
-      omega (arith, h),
-      filled_down_more 64 0 (outlet v) v.units j loop.ends _ (omega (arith, c.requires.few)) h
-          (rw (sub-one (downstream v j)) (loop.invariant.1.done (pred (downstream v j)) (omega (arith, b.later)) b.within)
-          ∙ sym (outlet_next v c.requires j h (omega (arith, b.next))))
-          (rw e at loop.invariant.1),
-    )
+loop-i-init c = filled_down_start 64 0 _ _
 
 pub loop-i-preserved : goal.loop-i-preserved
 loop-i-preserved c =
-    let v = units_view c.args.units c.args.n in
-    let loop = c.loop-i in
-    let j = loop.i - 1 in
-    let h : j < v.units = omega (arith, loop.invariant.0, c.loop-i-test.true) in
-    let e : loop.i ≡ suc j = omega (arith, c.loop-i-test.true) in (
-      omega (arith, h),
-      filled_down_more 64 0 (outlet v) v.units j loop.ends _ (omega (arith, c.requires.few)) h
-          (sym (outlet_self v j (omega (arith, c.if-d-gt0.false)))) (rw e at loop.invariant.1),
-    )
+    let v = units_of c.args.units.now in
+    let j = c.loop-i.i - 1 in
+    let h : j < length c.args.units.now = omega arith in
+    let e : c.loop-i.i ≡ suc j = omega arith in
+    let found : c.match-checked_sub.ends ≡ outlet v j =
+    elim c.match-checked_sub.branch [
+      | in-None w ↦ w.ends-is ∙ sym (outlet_self v j (omega (arith, c.from.ensures, w.in-None.ensures)))
+      | in-Some w ↦
+          let d : downstream v j ≡ suc w.in-Some.k = omega (arith, c.from.ensures, w.in-Some.ensures) in
+          let b = onward_of v c.requires j w.in-Some.k h d in
+          w.ends-is ∙ c.loop-i.invariant.done w.in-Some.k (omega (arith, b.later)) b.within ∙ sym (upstream_same v c.requires j w.in-Some.k h d)
+    ] in
+    filled_down_more 64 0 (outlet v) v.units j c.loop-i.ends _ (omega (arith, c.requires.few)) h found (rw e at c.loop-i.invariant)

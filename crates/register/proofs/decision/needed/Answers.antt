@@ -1,29 +1,43 @@
 -- `register::needed` meets its contract. Assumes nothing.
-use mathlib.Core.Path.{sym, ap, subst⁻¹, ◌∙◌}
+use mathlib.Core.Path.{refl, sym, ap, subst⁻¹, ◌∙◌}
 use mathlib.Core.Bool.{not}
 use mathlib.Core.List.{List}
+use lib.ListN.{take}
 use lib.Signed.{non_neg}
+use native.Mathlib.Omega.{arith}
 use Rattle.model.specs.declared.Unit.{Unit}
+use Rattle.model.specs.View.{View}
 use Rattle.river.specs.Flow.{Ready, flow}
-use Rattle.river.specs.Units.{units_view}
+use Rattle.river.specs.Units.{units_view, units_of}
+use Rattle.river.proofs.Units.{SameUnits, counted_units, ready_same, negative_same}
 use Rattle.river.proofs.Firsts.{nothing_every, at_fails}
 use Rattle.basin.specs.Sound.{flowing}
 use Rattle.register.proofs.decision.needed.Goals as goal
+use Rattle.register.proofs.decision.needed.Goals.{After-lowered_units-less}
+
+-- The view of the units without the title: the counted ones are its units.
+abbrev view : After-lowered_units-less → View
+view c = units_view c.lowered_units-less.result c.args.n
+
+ready : (c : After-lowered_units-less) → Ready (view c)
+ready c = subst⁻¹ (λ (us : List Unit). Ready (units_view us c.args.n)) c.lowered_units-less.ensures c.requires.1
+
+same : (c : After-lowered_units-less) → SameUnits (view c) (units_of (take c.args.n c.lowered_units-less.result))
+same c = counted_units (view c) c.lowered_units-less.result (omega (arith, (ready c).few)) (λ k h. refl)
 
 pub first_negative-requires : goal.first_negative-requires
 first_negative-requires c =
-    subst⁻¹ (λ (us : List Unit). Ready (units_view us c.args.n)) c.lowered_units-less.ensures c.requires.1
+    let less = (goal.at.first_negative-requires c).After-lowered_units-less in
+    ready_same _ _ (same less) (ready less)
 
 pub returns-in-Nothing : goal.returns-in-Nothing
 returns-in-Nothing c =
-    let less = c in
-    let start = less in
-    ap not (sym (nothing_every (λ j. non_neg (flow (units_view less.lowered_units-less.result start.args.n) j)) _ (sym c.in-Nothing.ensures)))
-    ∙ ap (λ (us : List Unit). not (flowing (units_view us start.args.n))) less.lowered_units-less.ensures
+    let less = (goal.at.returns-in-Nothing c).After-lowered_units-less in
+    ap not (sym (nothing_every (λ j. non_neg (flow (view less) j)) _ (sym (negative_same _ _ (same less)) ∙ sym c.in-Nothing.ensures)))
+    ∙ ap (λ (us : List Unit). not (flowing (units_view us c.args.n))) c.lowered_units-less.ensures
 
 pub returns-in-At : goal.returns-in-At
 returns-in-At c =
-    let less = c in
-    let start = less in
-    ap not (sym (at_fails (λ j. non_neg (flow (units_view less.lowered_units-less.result start.args.n) j)) _ _ (sym c.in-At.ensures)))
-    ∙ ap (λ (us : List Unit). not (flowing (units_view us start.args.n))) less.lowered_units-less.ensures
+    let less = (goal.at.returns-in-At c).After-lowered_units-less in
+    ap not (sym (at_fails (λ j. non_neg (flow (view less) j)) _ _ (sym (negative_same _ _ (same less)) ∙ sym c.in-At.ensures)))
+    ∙ ap (λ (us : List Unit). not (flowing (units_view us c.args.n))) c.lowered_units-less.ensures

@@ -1,127 +1,153 @@
--- `river::first_negative` meets its contract. The loop's invariant: none of the first i units has a negative flow, and `arrived` holds what
--- those contributed to each unit. Assumes nothing.
-use Prim.Native.Nat.{suc, pred, ◌<◌, ◌+◌, ◌-◌}
-use mathlib.Core.Path.{◌≡◌, ap, sym}
-use mathlib.Core.Bool.{not}
-use native.Mathlib.Omega.{arith}
-use native.Mathlib.Numerals.{add-one}
+-- `first_negative` meets its contract. Assumes nothing.
+use Rattle.std.proofs.Common.{ℕ, ◌≡◌, ◌+◌, ◌-◌, ◌<◌, ◌≤◌, not, ap, sym, ◌∙◌, true, List, ◌∷◌, length, drop, get_or, arith, add-one}
+use Rattle.std.proofs.lemmas.List.{drop_more, length-drop}
+use Rattle.std.specs.Int.Signed.{non_neg}
+use Rattle.std.specs.Slice.Iter.{iter_rest}
 use borrow.Author.Count.{below_none, below_more}
-use lib.ListN.{get_or}
 use Rattle.laws.proofs.Parts.{Less, less_monus, less_non_neg, less_negative}
 use Rattle.laws.proofs.Arrays.{arrived_start, arrived_out, arrived_on}
-use Rattle.river.specs.Units.{units_view}
+use Rattle.model.specs.declared.Unit.{Unit}
+use Rattle.model.specs.Fresh.{empty_unit}
 use Rattle.river.specs.Flow.{downstream, flow}
 use Rattle.river.specs.Reserve.{contribution}
-use Rattle.river.proofs.Flows.{small}
-use Rattle.river.proofs.Reserves.{Below, below_of, flow_reached, left_within, total_small}
+use Rattle.river.specs.Units.{units_of}
+use Rattle.river.proofs.Reserves.{flow_reached, total_small}
 use Rattle.river.proofs.Firsts.{first_at, first_nothing}
+use Rattle.river.proofs.Passing.{Onward, onward_of, arrived_within}
+use Rattle.river.proofs.search.first_negative.Invariants.{Flowing}
 use Rattle.river.proofs.search.first_negative.Goals as goal
-use Rattle.river.proofs.search.first_negative.Goals.{then-d-gt0, else-d-gt0, After-loss-lost, After-struct_known-1, Then-d-gt0}
+use Rattle.river.proofs.search.first_negative.Goals.{In-Some, After-loss-lost, In-Some-checked_sub, In_default-checked_sub}
+
+-- What the iterator gives: the next unit, and leaves: the units after it.
+record Taken (us : List Unit) (i : ℕ) (u : Unit) (left : List Unit) : Type 0 where
+  inside : i < length us
+  unit : u ≡ get_or us i empty_unit
+  rest : left ≡ drop (i + 1) us
+
+taken_of : (us rest left : List Unit) (i : ℕ) (u : Unit) → rest ≡ drop i us → rest ≡ u ∷ left → Taken us i u left
+taken_of us rest left i u e g =
+    let some : i < length us = omega (arith, length-drop i us, ap length (sym e ∙ g)) in
+    let more = drop_more us i empty_unit some in
+    record { inside = some; unit = cc; rest = cc }
+
+taken : (c : In-Some) → Taken c.args.units.now c.in-Some.i c.in-Some.u.now (iter_rest c.next.new.self.iter)
+taken c =
+    taken_of _ _ _ _ _ (c.loop-i.invariant.rest ∙ ap (λ (k : ℕ). drop k c.args.units.now) (sym c.in-Some.ensures.steps.1)) c.in-Some.ensures.steps.0
+
+flowing : (c : In-Some) → Flowing (units_of c.args.units.now) c.in-Some.i c.loop-i.arrived
+flowing c = rw c.in-Some.ensures.steps.1 c.loop-i.invariant.flowing
+
+next_is : (c : In-Some) → c.next.new.self.count ≡ c.in-Some.i + 1
+next_is c = omega (arith, c.in-Some.ensures.steps.1, c.in-Some.ensures.steps.2)
 
 pub loop-i-init : goal.loop-i-init
-loop-i-init c = (omega arith, below_none _, arrived_start 64 _ _)
-
-pub bounds-arrived-i : goal.bounds-arrived-i
-bounds-arrived-i c = omega arith
-
-pub gain-requires : goal.gain-requires
-gain-requires c =
-    small (units_view c.args.units c.args.n) c.requires _ (omega (arith, c.if-n-i.false))
-
-pub overflow_add-gained : goal.overflow_add-gained
-overflow_add-gained c =
-    let start = c in
-    let v = units_view start.args.units start.args.n in
-    let loop = c.loop-i in
-    let h : loop.i < v.units = omega (arith, c.if-n-i.false) in
-    omega (
-      arith,
-      loop.invariant.2.each loop.i ((omega arith)),
-      total_small v start.requires loop.i h,
-      c.gain.ensures,
-      start.requires.gains loop.i h,
-    )
-
-pub loss-lost-requires : goal.loss-lost-requires
-loss-lost-requires c = (small (units_view c.args.units c.args.n) c.requires _ (omega (arith, c.if-n-i.false)))
+loop-i-init c =
+    rw (c.enumerate-rest.ensures.source, c.enumerate-rest.ensures.count)
+    (record { within = omega arith; rest = c.iter.ensures.rest; flowing = record { passed = below_none _; arrived = arrived_start 64 _ _ } })
 
 -- What the loop compares at unit i: its flow is the one less the other.
 reached : (c : After-loss-lost)
-    → Less (flow (units_view c.args.units c.args.n) c.loop-i.i)
-    (get_or c.loop-i.arrived c.loop-i.i 0 + c.gain.result)
-    c.loss-lost.result
+    → Less (flow (units_of c.args.units.now) c.in-Some.i) (get_or c.loop-i.arrived c.in-Some.i 0 + c.gain.result) c.loss-lost.result
 reached c =
-    let loop = c.loop-i in
-    rw (loop.invariant.2.each loop.i ((omega arith)), c.gain.ensures, c.loss-lost.ensures)
-    (flow_reached (units_view c.args.units c.args.n) loop.i loop.invariant.1)
+    let t = taken (goal.at.After-loss-lost c).In-Some in
+    let f = flowing (goal.at.After-loss-lost c).In-Some in
+    rw (f.arrived.each c.in-Some.i (omega (arith, t.inside, c.requires.few)), c.gain.ensures, c.loss-lost.ensures, t.unit)
+    (flow_reached (units_of c.args.units.now) c.in-Some.i f.passed)
 
-onward : (c : Then-d-gt0)
-    → Below (units_view c.args.units c.args.n) c.loop-i.i
-onward c =
-    let start = c in
-    below_of (units_view start.args.units start.args.n) start.requires c.loop-i.i
-    (omega (arith, c.if-n-i.false)) (omega (arith, c.if-d-gt0.true))
-
-pub bounds-arrived-k : goal.bounds-arrived-k
-bounds-arrived-k c = omega (
-  arith,
-  ((let start = c in
-      below_of (units_view start.args.units start.args.n) start.requires c.loop-i.i
-      (omega (arith, c.if-n-i.false)) (omega (arith, c.if-d-gt0.true)))).within,
-  c.requires.few,
-)
+pub overflow_add-gained : goal.overflow_add-gained
+overflow_add-gained c =
+    let v = units_of c.args.units.now in
+    let t = taken (goal.at.overflow_add-gained c).In-Some in
+    let f = flowing (goal.at.overflow_add-gained c).In-Some in
+    let own = rw t.unit at c.gain.ensures in
+    omega (
+      arith,
+      own,
+      f.arrived.each c.in-Some.i (omega (arith, t.inside, c.requires.few)),
+      total_small v c.requires c.in-Some.i t.inside,
+      c.requires.gains c.in-Some.i t.inside,
+    )
 
 -- The unit's contribution goes on to its downstream unit.
-contributed : (c : After-struct_known-1)
-    → get_or c.loop-i.arrived c.loop-i.i 0
-    + c.gain.result - c.loss-lost.result
-    ≡ contribution (units_view c.args.units c.args.n) c.loop-i.i
-contributed c = sym (less_monus (reached (goal.at.After-struct_known-1 c).After-loss-lost))
+contributed : (c : After-loss-lost)
+    → get_or c.loop-i.arrived c.in-Some.i 0 + c.gain.result - c.loss-lost.result ≡ contribution (units_of c.args.units.now) c.in-Some.i
+contributed c = sym (less_monus (reached c))
+
+onward : (c : In-Some-checked_sub) → Onward (units_of c.args.units.now) c.in-Some.i c.in-Some-checked_sub.k
+onward c =
+    let t = taken (goal.at.In-Some-checked_sub c).In-Some in
+    onward_of (units_of c.args.units.now) c.requires c.in-Some.i c.in-Some-checked_sub.k t.inside
+    (ap (λ (u : Unit). u.downstream) (sym t.unit) ∙ omega (arith, c.from.ensures, c.in-Some-checked_sub.ensures))
 
 pub overflow_add-arrived : goal.overflow_add-arrived
 overflow_add-arrived c =
-    let start = c in
-    let v = units_view start.args.units start.args.n in
-    let loop = c.loop-i in
+    let t = taken (goal.at.overflow_add-arrived c).In-Some in
+    let f = flowing (goal.at.overflow_add-arrived c).In-Some in
     omega (
       arith,
-      loop.invariant.2.each (downstream v loop.i - 1) ((omega (arith, (onward c).within, c.requires.few))),
-      contributed (goal.at.overflow_add-arrived c).After-struct_known-1,
-      left_within v loop.i (onward c),
-      total_small v start.requires (pred (downstream v loop.i)) (onward c).within,
+      arrived_within (units_of c.args.units.now) c.requires c.in-Some.i t.inside c.in-Some-checked_sub.k c.loop-i.arrived _ (onward c)
+          (contributed (goal.at.overflow_add-arrived c).After-loss-lost) f.arrived,
     )
 
-pub bounds-arrived-k-then-d-gt0 : goal.bounds-arrived-k-then-d-gt0
-bounds-arrived-k-then-d-gt0 c = (omega (arith, (onward c).within, c.requires.few))
+-- The invariant after a unit with no negative flow, which contributes to the unit below it, or is an outlet.
+passed : (c : After-loss-lost) → c.loss-lost.result ≤ get_or c.loop-i.arrived c.in-Some.i 0 + c.gain.result
+    → (k : ℕ) → k < c.in-Some.i + 1 → non_neg (flow (units_of c.args.units.now) k) ≡ true
+passed c h = below_more _ _ (flowing (goal.at.After-loss-lost c).In-Some).passed (less_non_neg (reached c) h)
+
+pub loop-i-preserved-in-Some-checked_sub : goal.loop-i-preserved-in-Some-checked_sub
+loop-i-preserved-in-Some-checked_sub c =
+    let v = units_of c.args.units.now in
+    let t = taken (goal.at.loop-i-preserved-in-Some-checked_sub c).In-Some in
+    let f = flowing (goal.at.loop-i-preserved-in-Some-checked_sub c).In-Some in
+    let b = onward c in
+    rw (next_is (goal.at.loop-i-preserved-in-Some-checked_sub c).In-Some, contributed (goal.at.loop-i-preserved-in-Some-checked_sub c).After-loss-lost)
+    (record {
+      within = omega (arith, t.inside);
+      rest = t.rest;
+      flowing =
+          record {
+            passed = passed (goal.at.loop-i-preserved-in-Some-checked_sub c).After-loss-lost c.if-gained-lost.false;
+            arrived =
+                rw (add-one c.in-Some.i)
+                (arrived_on 64 (downstream v) (contribution v) c.in-Some.i c.in-Some-checked_sub.k c.loop-i.arrived b.next
+                (omega (arith, b.within, c.requires.few)) f.arrived);
+          };
+    })
 
 pub loop-i-preserved : goal.loop-i-preserved
 loop-i-preserved c =
-    let start = c in
-    let v = units_view start.args.units start.args.n in
-    let loop = c.loop-i in
-    let i = loop.i in (
-      omega arith,
-      below_more _ _ loop.invariant.1 (less_non_neg (reached (goal.at.loop-i-preserved c).After-loss-lost) (omega (arith, c.if-gained-lost.false))),
-      rw (add-one i)
-          (elim c.if-d-gt0.branch [
-            | then-d-gt0 w ↦
-                let b = below_of v start.requires i (omega (arith, c.if-n-i.false)) (omega (arith, w.if-d-gt0.true)) in
-                let k : downstream v i - 1 < 64 = omega (arith, b.within, c.requires.few) in
-                let e : downstream v i ≡ suc (downstream v i - 1) = omega (arith, w.if-d-gt0.true) in
-                rw (w.arrived-is, contributed (goal.at.loop-i-preserved c).After-struct_known-1)
-                (arrived_on 64 (downstream v) (contribution v) i (downstream v i - 1) loop.arrived e k loop.invariant.2)
-            | else-d-gt0 w ↦ rw w.arrived-is (arrived_out 64 (downstream v) (contribution v) i loop.arrived (omega (arith, w.if-d-gt0.false)) loop.invariant.2)
-          ]),
-    )
+    let v = units_of c.args.units.now in
+    let t = taken (goal.at.loop-i-preserved c).In-Some in
+    let f = flowing (goal.at.loop-i-preserved c).In-Some in
+    let out : downstream v c.in-Some.i ≡ 0 =
+    ap (λ (u : Unit). u.downstream) (sym t.unit) ∙ omega (arith, c.from.ensures, c.in_default-checked_sub.ensures) in
+    rw (next_is (goal.at.loop-i-preserved c).In-Some)
+    (record {
+      within = omega (arith, t.inside);
+      rest = t.rest;
+      flowing =
+          record {
+            passed = passed (goal.at.loop-i-preserved c).After-loss-lost c.if-gained-lost.false;
+            arrived = rw (add-one c.in-Some.i) (arrived_out 64 (downstream v) (contribution v) c.in-Some.i c.loop-i.arrived out f.arrived);
+          };
+    })
 
-pub returns-then-n-i : goal.returns-then-n-i
-returns-then-n-i c =
-    let v = units_view c.args.units c.args.n in
-    sym (first_nothing _ v.units (λ k h. ap not (c.loop-i.invariant.1 k (omega (arith, c.if-n-i.true)))))
+pub returns-in_default : goal.returns-in_default
+returns-in_default c =
+    let us = c.args.units.now in
+    let all : c.loop-i.rest.count ≡ length us =
+    omega (
+      arith,
+      c.loop-i.invariant.within,
+      length-drop c.loop-i.rest.count us,
+      ap length c.loop-i.invariant.rest,
+      c.in_default.ensures.steps.0.0,
+    ) in
+    sym (first_nothing _ (length us) (λ k h. ap not (c.loop-i.invariant.flowing.passed k (omega (arith, all)))))
 
 pub returns-then-gained-lost : goal.returns-then-gained-lost
 returns-then-gained-lost c =
-    let v = units_view c.args.units c.args.n in
-    let loop = c.loop-i in
-    sym (first_at _ v.units loop.i (omega (arith, c.if-n-i.false)) (λ k h. ap not (loop.invariant.1 k h))
+    let t = taken (goal.at.returns-then-gained-lost c).In-Some in
+    let f = flowing (goal.at.returns-then-gained-lost c).In-Some in
+    sym (first_at _ (length c.args.units.now) c.in-Some.i t.inside (λ k h. ap not (f.passed k h))
     (ap not (less_negative (reached (goal.at.returns-then-gained-lost c).After-loss-lost) c.if-gained-lost.true)))

@@ -1,20 +1,26 @@
--- `river::first_negative` meets its contract. The loop's invariant: none of the first i units has a negative flow, and `arrived` holds what
--- those contributed to each unit. Assumes nothing.
-use Prim.Native.Nat.{ℕ, ◌≤◌, ◌<◌, ◌-◌}
-use mathlib.Core.Path.{◌≡◌}
-use mathlib.Core.Bool.{true}
-use lib.Signed.{non_neg}
+-- `first_negative` meets its contract. The loop's invariant: the iterator has the units from index `count` on, none of those before it has
+-- a negative flow, and `arrived` holds what those contributed to each unit. Assumes nothing.
+use Rattle.std.proofs.Common.{ℕ, ◌≡◌, ◌≤◌, ◌<◌, true, List, length, drop}
+use Rattle.std.specs.Slice.Iter.{iter_rest}
+use Rattle.std.specs.Int.Signed.{non_neg}
 use Rattle.laws.proofs.Arrays.{Arrived}
-use Rattle.river.specs.Units.{units_view}
+use Rattle.model.specs.View.{View}
+use Rattle.river.specs.Units.{units_of}
 use Rattle.river.specs.Flow.{downstream, flow}
 use Rattle.river.specs.Reserve.{contribution}
 use Rattle.river.proofs.search.first_negative.Given as goal
 
+pub record Flowing (v : View) (i : ℕ) (w : List ℕ) : Type 0 where
+  pub passed : (k : ℕ) → k < i → non_neg (flow v k) ≡ true
+  pub arrived : Arrived 64 (downstream v) (contribution v) i w
+
 abbrev pub invariant-loop-i : goal.invariant-loop-i
 invariant-loop-i l =
-    (l.i ≤ l.n)
-    × ((k : ℕ) → k < l.i → non_neg (flow (units_view l.units l.n) k) ≡ true)
-    × Arrived 64 (downstream (units_view l.units l.n)) (contribution (units_view l.units l.n)) l.i l.arrived
+    record {
+      within : l.rest.count ≤ length l.units;
+      rest : iter_rest l.rest.iter ≡ drop l.rest.count l.units;
+      flowing : Flowing (units_of l.units) l.rest.count l.arrived;
+    }
 
 abbrev pub decreases-loop-i : goal.decreases-loop-i
-decreases-loop-i l = l.n - l.i
+decreases-loop-i l = length (iter_rest l.rest.iter)
