@@ -13,10 +13,7 @@ const LONGEST_NAME: usize = 4096;
 
 // An argument as the name of a file.
 fn name_of(bytes: &[u8]) -> io::Result<&str> {
-    match str::from_utf8(bytes) {
-        Ok(name) => Ok(name),
-        Err(_) => Err(io::Error::from(io::ErrorKind::InvalidData)),
-    }
+    str::from_utf8(bytes).map_err(|_| io::Error::from(io::ErrorKind::InvalidData))
 }
 
 // One file: prints a line with its name, reads it into the room and hands over what was read. For a file that can't be opened there is a
@@ -41,7 +38,8 @@ fn one<R: Files + Print + Eprint, F: FnMut(&[u8]) -> io::Result<()>>(
     }
 }
 
-// Goes through the files that the arguments name, in their order, as long as nothing fails.
+// Goes through the files that the arguments name, in their order, as long as nothing fails. What the arguments and the files are is unknown
+// to contracts. The arguments are counted by hand, and a name is put into a buffer, since `env::args` needs the heap.
 pub fn each<R: Env + Files + Print + Eprint, F: FnMut(&[u8]) -> io::Result<()>>(
     rt: &R,
     room: &mut [u8],

@@ -7,6 +7,9 @@ use std::io;
 use std::io::Write;
 use std::str::FromStr;
 
+// The index of the fifth title.
+const FIFTH: usize = 4;
+
 // A volume of a unit.
 #[derive(Clone, Copy)]
 pub(crate) enum UnitEntry {
@@ -74,7 +77,7 @@ impl TryFrom<u8> for UnitEntry {
             b'v' => Ok(UnitEntry::Evaporation),
             b'c' => Ok(UnitEntry::Commitment),
             b'f' => Ok(UnitEntry::Runoff),
-            _ => Err(ReadError::NoSuchWord),
+            _ => Err(ReadError::UnknownWord),
         }
     }
 }
@@ -88,7 +91,7 @@ impl TryFrom<u8> for AquiferEntry {
             b'p' => Ok(AquiferEntry::Pumped),
             b'c' => Ok(AquiferEntry::Committed),
             b'e' => Ok(AquiferEntry::Extraction),
-            _ => Err(ReadError::NoSuchWord),
+            _ => Err(ReadError::UnknownWord),
         }
     }
 }
@@ -121,7 +124,7 @@ fn title_of(word: &str, numbers: &mut Numbers<'_>) -> Result<Title, ReadError> {
             usage: numbers.next()?,
             volume: numbers.next()?,
         }),
-        _ => Err(ReadError::NoSuchWord),
+        _ => Err(ReadError::UnknownWord),
     }
 }
 
@@ -164,7 +167,7 @@ impl FromStr for Change {
     type Err = ReadError;
 
     fn from_str(text: &str) -> Result<Self, ReadError> {
-        let (word, mut numbers) = Numbers::after_word(text)?;
+        let (word, mut numbers) = Numbers::split(text)?;
         let read = change_of(word, &mut numbers)?;
         numbers.end()?;
         Ok(read)
@@ -222,7 +225,7 @@ impl Change {
                 *entry.of(at(&mut balance.aquifers, aquifer)?) = to;
             }
             Change::FifthTitle(title) => {
-                balance.titles[4] = Place {
+                balance.titles[FIFTH] = Place {
                     title,
                     in_force: true,
                 };

@@ -34,7 +34,7 @@ impl FromStr for Command {
     type Err = ReadError;
 
     fn from_str(text: &str) -> Result<Self, ReadError> {
-        let (word, mut numbers) = Numbers::after_word(text)?;
+        let (word, mut numbers) = Numbers::split(text)?;
         let command = match word {
             "kn" => Command::Keep(name(&mut numbers)?),
             "kb" => Command::GoBack(name(&mut numbers)?),
@@ -85,16 +85,23 @@ fn asked<W: Write>(
 impl Command {
     // Makes the call or the change.
     fn run<W: Write>(self, out: &mut W, state: &mut State) -> io::Result<()> {
-        let s = *state;
+        let balance = state.balance;
         match self {
-            Command::Keep(name) => planned(out, state, "kept", planning::keep(s, name)),
-            Command::GoBack(name) => planned(out, state, "back", planning::back(s, name)),
+            Command::Keep(name) => {
+                let reply = planning::keep(*state, name);
+                planned(out, state, "kept", reply)
+            }
+            Command::GoBack(name) => {
+                let reply = planning::back(*state, name);
+                planned(out, state, "back", reply)
+            }
             Command::Withdraw { unit, volume } => {
-                let reply = register::withdraw(s.balance, unit, 1, volume);
+                let reply = register::withdraw(balance, unit, 1, volume);
                 asked(out, state, "given", reply)
             }
             Command::Cancel { number } => {
-                asked(out, state, "cancelled", register::cancel(s.balance, number))
+                let reply = register::cancel(balance, number);
+                asked(out, state, "cancelled", reply)
             }
             Command::SetCount(count) => {
                 state.count = count;
@@ -105,7 +112,7 @@ impl Command {
                 Ok(())
             }
             Command::SetKept { place } => {
-                *state.kept.get_mut(place).ok_or(ReadError::NoSuchPlace)? = s.balance;
+                *state.kept.get_mut(place).ok_or(ReadError::NoSuchPlace)? = balance;
                 Ok(())
             }
             Command::Change(change) => Ok(change.make(&mut state.balance)?),

@@ -1,6 +1,6 @@
 // A state as it is printed: of each of its balances the counts, the entries that GU and GA raise, and which titles are in force.
 use model::Balance;
-use planning::{Name, State};
+use planning::State;
 use std::fmt;
 use std::fmt::{Display, Formatter};
 
@@ -32,12 +32,8 @@ impl Display for BalanceDump<'_> {
     }
 }
 
-// The number of a name: its eight bytes, the lowest first.
-fn number_of(name: Name) -> u64 {
-    u64::from_le_bytes(name.bytes)
-}
-
-// The count, the current balance, and what stands in the four places, used or not: the number of the name and the balance.
+// The count, the current balance, and what stands in the four places, used or not: the number whose bytes are the name, the
+// lowest first, and the balance.
 #[derive(Clone, Copy)]
 pub(crate) struct StateDump<'a>(pub &'a State);
 
@@ -46,7 +42,8 @@ impl Display for StateDump<'_> {
         let s = self.0;
         write!(f, " = {}{}", s.count, BalanceDump(&s.balance))?;
         for (name, kept) in s.names.iter().zip(&s.kept) {
-            write!(f, " / {}{}", number_of(*name), BalanceDump(kept))?;
+            let number = u64::from_le_bytes(name.bytes);
+            write!(f, " / {number}{}", BalanceDump(kept))?;
         }
         Ok(())
     }

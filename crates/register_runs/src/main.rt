@@ -3,6 +3,8 @@
 // printed and what is changed in it, and each line of the file `states` also which calls are made.
 #![tactic(auto)]
 
+ghost use Rattle.std.specs.Prelude.{◌<◌, IfOk, length};
+
 mod change;
 mod command;
 mod dump;
@@ -15,7 +17,7 @@ use planning::State;
 use std::rt::Files;
 use std::{fs, io, str};
 
-// The longest file that is read.
+// The room for a file. One that fills it may go on, and is not read.
 const ROOM: usize = 131072;
 
 // The balance of a book after its calls.
@@ -24,18 +26,23 @@ fn balance_of(book: &[u8]) -> Balance {
     calls::run(book, opened.place, opened.balance).balance
 }
 
-// The bytes of a file, read into a buffer.
-fn read<'a>(rt: &impl Files, name: &str, bytes: &'a mut [u8; ROOM]) -> io::Result<&'a [u8]> {
+// The bytes of a file, put into a buffer.
+fn read<'a>(rt: &impl Files, name: &str, bytes: &'a mut [u8; ROOM]) -> io::Result<&'a [u8]>
+    ensures { IfOk result (λ read. length read.now < ROOM) }
+{
     let mut file = fs::open(rt, name)?;
     let n = input::read_full(&mut file, bytes)?;
+    if n == ROOM {
+        return Err(io::Error::from(io::ErrorKind::FileTooLarge));
+    }
     Ok(&bytes[..n])
 }
 
-// The text of a file, read into a buffer.
+// The text of a file, put into a buffer.
 fn read_text<'a>(rt: &impl Files, name: &str, bytes: &'a mut [u8; ROOM]) -> io::Result<&'a str> {
     str::from_utf8(read(rt, name, bytes)?).map_err(|_| io::Error::new(
         io::ErrorKind::InvalidData,
-        "no text",
+        "a file is no text",
     ))
 }
 

@@ -1,4 +1,4 @@
-// The words of a change or a command: two letters, and then numbers, each after one space.
+// The numbers of a change or a command. It is a word of two letters and then numbers, each after one space.
 use std::io;
 use std::num::ParseIntError;
 use std::str::{FromStr, Split};
@@ -6,45 +6,45 @@ use std::str::{FromStr, Split};
 // Why a text is no change and no command.
 #[derive(Clone, Copy)]
 pub(crate) enum ReadError {
-    NoSuchWord,
-    NumberMissing,
-    NumberTooMany,
-    NoSuchNumber,
+    UnknownWord,
+    MissingNumber,
+    ExtraNumber,
+    WrongNumber,
     NoSuchPlace,
 }
 
 impl From<ParseIntError> for ReadError {
     fn from(_error: ParseIntError) -> Self {
-        ReadError::NoSuchNumber
+        ReadError::WrongNumber
     }
 }
 
 impl From<ReadError> for io::Error {
     fn from(error: ReadError) -> Self {
         let words = match error {
-            ReadError::NoSuchWord => "no such change or command",
-            ReadError::NumberMissing => "a number is missing",
-            ReadError::NumberTooMany => "a number too many",
-            ReadError::NoSuchNumber => "no such number",
+            ReadError::UnknownWord => "no such change or command",
+            ReadError::MissingNumber => "a number is missing",
+            ReadError::ExtraNumber => "there is a number too many",
+            ReadError::WrongNumber => "a number is wrong",
             ReadError::NoSuchPlace => "no such unit, aquifer, title or place",
         };
         io::Error::new(io::ErrorKind::InvalidData, words)
     }
 }
 
-// The numbers, from left to right.
+// The numbers that are left, from left to right.
 #[derive(Drop)]
 pub(crate) struct Numbers<'a> {
     rest: Split<'a, char>,
 }
 
 impl<'a> Numbers<'a> {
-    // The two letters, and the numbers after them.
-    pub(crate) fn after_word(text: &'a str) -> Result<(&'a str, Numbers<'a>), ReadError> {
+    // The word of a change or a command, and its numbers.
+    pub(crate) fn split(text: &'a str) -> Result<(&'a str, Numbers<'a>), ReadError> {
         let (word, numbers) = text
             .trim_start()
             .split_once(' ')
-            .ok_or(ReadError::NumberMissing)?;
+            .ok_or(ReadError::MissingNumber)?;
         Ok((
             word,
             Numbers {
@@ -55,7 +55,7 @@ impl<'a> Numbers<'a> {
 
     // The next number.
     pub(crate) fn next<T: FromStr<Err = ParseIntError>>(&mut self) -> Result<T, ReadError> {
-        let digits = self.rest.next().ok_or(ReadError::NumberMissing)?;
+        let digits = self.rest.next().ok_or(ReadError::MissingNumber)?;
         Ok(digits.parse()?)
     }
 
@@ -68,7 +68,7 @@ impl<'a> Numbers<'a> {
     // After the last number nothing is left.
     pub(crate) fn end(mut self) -> Result<(), ReadError> {
         match self.rest.next() {
-            Some(_) => Err(ReadError::NumberTooMany),
+            Some(_) => Err(ReadError::ExtraNumber),
             None => Ok(()),
         }
     }
