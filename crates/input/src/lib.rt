@@ -8,17 +8,17 @@ use std::io;
 use std::io::Read;
 
 // Reads until the buffer is full or nothing is left, and answers how many bytes were read.
+// The loop is by hand: `read_exact` and `io::copy` don't say what came before an error or the end, and `read_to_end` needs the heap.
 pub fn read_full<R: Read>(from: &mut R, bytes: &mut [u8]) -> io::Result<usize>
     ensures bound { ReadsAtMost result bytes.new }
     ensures filled { Filled (R.remaining from.old) (R.remaining from.new) result bytes.new }
 {
     let mut n = 0;
     while n < bytes.len() {
-        let more = from.read(&mut bytes[n..])?;
-        if more == 0 {
-            break;
+        match from.read(&mut bytes[n..])? {
+            0 => break,
+            more => n += more,
         }
-        n += more;
     }
     Ok(n)
 }

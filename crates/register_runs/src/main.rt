@@ -3,49 +3,54 @@
 // printed and what is changed in it, and each line of the file `states` also which calls are made.
 #![tactic(auto)]
 
-ghost use Rattle.std.specs.Io.{ReadsAtMost};
+ghost use Rattle.std.specs.Prelude.{◌<◌, IfOk, length};
 
 mod change;
-mod changed;
+mod command;
 mod dump;
-mod line;
-mod name;
-mod print;
+mod lines;
+mod numbers;
 mod replies;
-mod states;
 
 use model::Balance;
 use planning::State;
 use std::rt::Files;
-use std::{fs, io};
+use std::{fs, io, str};
 
-// The balance of a book after its calls.
-fn balance_of(s: &[u8]) -> Balance {
-    let o = book::read_book(s);
-    let place = o.place;
-    let balance = o.balance;
-    let ran = calls::run(s, place, balance);
-    ran.balance
-}
-
-// The longest file that is read.
+// The room for a file. One that fills it may go on, and is not read.
 const ROOM: usize = 131072;
 
-// The bytes of a file, put into a buffer, and how many they are.
-fn read(rt: &impl Files, name: &str, bytes: &mut [u8; ROOM]) -> io::Result<usize>
-    ensures { ReadsAtMost result bytes.new }
+// The balance of a book after its calls.
+fn balance_of(book: &[u8]) -> Balance {
+    let opened = book::read_book(book);
+    calls::run(book, opened.place, opened.balance).balance
+}
+
+// The bytes of a file, put into a buffer.
+fn read<'a>(rt: &impl Files, name: &str, bytes: &'a mut [u8; ROOM]) -> io::Result<&'a [u8]>
+    ensures { IfOk result (λ read. length read.now < ROOM) }
 {
-    let mut from = fs::open(rt, name)?;
-    input::read_full(&mut from, bytes)
+    let mut file = fs::open(rt, name)?;
+    let n = input::read_full(&mut file, bytes)?;
+    if n == ROOM {
+        return Err(io::Error::from(io::ErrorKind::FileTooLarge));
+    }
+    Ok(&bytes[..n])
+}
+
+// The text of a file, put into a buffer.
+fn read_text<'a>(rt: &impl Files, name: &str, bytes: &'a mut [u8; ROOM]) -> io::Result<&'a str> {
+    str::from_utf8(read(rt, name, bytes)?).map_err(|_| io::Error::new(
+        io::ErrorKind::InvalidData,
+        "a file is no text",
+    ))
 }
 
 fn main(rt: HostRuntime) -> io::Result<()> {
     let mut out = io::writer(&rt);
     let mut bytes = [0u8; ROOM];
-    let n = read(&rt, "broken-base", &mut bytes)?;
-    let base = balance_of(&bytes[..n]);
-    let m = read(&rt, "balances", &mut bytes)?;
-    line::run(&mut out, base, &bytes[..m])?;
-    let k = read(&rt, "states", &mut bytes)?;
-    states::run(&mut out, State::nothing_kept(base), &bytes[..k])
+    let base = balance_of(read(&rt, "broken-base", &mut bytes)?);
+    lines::run(&mut out, base, read_text(&rt, "balances", &mut bytes)?)?;
+    let state = State::nothing_kept(base);
+    lines::run(&mut out, state, read_text(&rt, "states", &mut bytes)?)
 }

@@ -1,0 +1,2 @@
+-- Calls of a closure, one after the other.
+pub mod Handing

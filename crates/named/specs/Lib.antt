@@ -1,0 +1,2 @@
+-- What is handed over.
+pub mod Handed
