@@ -1,41 +1,30 @@
 -- `planning::back` meets its contract. Assumes nothing.
 use Prim.Native.Nat.{◌<◌}
-use mathlib.Core.Path.{◌≡◌, sym, ◌∙◌}
-use mathlib.Core.Bool.{true}
+use mathlib.Core.Path.{◌≡◌, sym, ap, ◌∙◌}
+use mathlib.Core.Bool.{Bool}
 use native.Mathlib.Omega.{arith}
+use Rattle.planning.specs.Calls.{place_in}
 use Rattle.planning.specs.State.{sound_state}
-use Rattle.planning.proofs.Replying.{standing, back_faulty, back_none, back_to, place_within}
+use Rattle.planning.specs.Decision.{back_decision}
+use Rattle.planning.proofs.Replying.{standing}
+use Rattle.planning.proofs.Deciding.{to_within}
 use Rattle.planning.proofs.calls.back.Goals as goal
-use Rattle.planning.proofs.calls.back.Goals.{Else-not-sound, In-At}
+use Rattle.planning.proofs.calls.back.Goals.{After-decide_back, In-To}
 
--- Past the test the state is sound.
-tested : (c : Else-not-sound) → sound_state c.args.s ≡ true
-tested c = sym c.sound.ensures ∙ c.if-not-sound.false
+-- What was decided on the state.
+decided : (c : After-decide_back) → c.decide_back.result ≡ back_decision (sound_state c.args.s) (place_in c.args.s c.args.name)
+decided c =
+    let s = c.args.s in
+    c.decide_back.ensures ∙ ap (λ (t : Bool). back_decision t (place_in s c.args.name)) c.sound.ensures
 
--- The place of a name that is found.
-within : (c : In-At) → c.in-At.k < 4
-within c =
-    omega (
-      arith,
-      (standing _ (tested (goal.at.In-At c).Else-not-sound)).few,
-      place_within c.args.s c.args.name _ (sym c.in-At.ensures),
-    )
+within : (c : In-To) → c.in-To.place < 4
+within c = to_within c.args.s c.args.name _ (sym (decided (goal.at.In-To c).After-decide_back) ∙ c.in-To.is)
 
-pub returns-then-not-sound : goal.returns-then-not-sound
-returns-then-not-sound c = c.refused.ensures ∙ sym (back_faulty c.args.s c.args.name (sym c.sound.ensures ∙ c.if-not-sound.true))
+pub decide_back-requires : goal.decide_back-requires
+decide_back-requires c = λ e. (standing c.args.s (sym c.sound.ensures ∙ e)).few
 
-pub place_of-requires : goal.place_of-requires
-place_of-requires c = (standing _ (tested (goal.at.place_of-requires c).Else-not-sound)).few
+pub offset_bounds-s-place : goal.offset_bounds-s-place
+offset_bounds-s-place c = omega (arith, within c)
 
-pub offset_bounds-s-k : goal.offset_bounds-s-k
-offset_bounds-s-k c = omega (arith, within c)
-
-pub bounds-s-k : goal.bounds-s-k
-bounds-s-k c = within c
-
-pub returns-in-Nothing : goal.returns-in-Nothing
-returns-in-Nothing c = c.refused-in-Nothing.ensures
-    ∙ sym (back_none c.args.s c.args.name (tested (goal.at.returns-in-Nothing c).Else-not-sound) (sym c.in-Nothing.ensures))
-
-pub returns-in-At : goal.returns-in-At
-returns-in-At c = sym (back_to c.args.s c.args.name (tested (goal.at.returns-in-At c).Else-not-sound) _ (sym c.in-At.ensures))
+pub bounds-s-place : goal.bounds-s-place
+bounds-s-place c = within c

@@ -1,44 +1,30 @@
 -- `planning::keep` meets its contract. Assumes nothing.
 use Prim.Native.Nat.{◌<◌}
-use mathlib.Core.Path.{◌≡◌, sym, ◌∙◌}
-use mathlib.Core.Bool.{true}
+use mathlib.Core.Path.{◌≡◌, sym, ap, ◌∙◌}
+use mathlib.Core.Bool.{Bool}
 use native.Mathlib.Omega.{arith}
+use Rattle.planning.specs.Calls.{place_in}
 use Rattle.planning.specs.State.{sound_state}
-use Rattle.planning.proofs.Replying.{standing, keep_faulty, keep_again, keep_fifth, keep_new, place_within}
+use Rattle.planning.specs.Decision.{keep_decision}
+use Rattle.planning.proofs.Replying.{standing}
+use Rattle.planning.proofs.Deciding.{again_within}
 use Rattle.planning.proofs.calls.keep.Goals as goal
-use Rattle.planning.proofs.calls.keep.Goals.{Else-not-sound, In-At}
+use Rattle.planning.proofs.calls.keep.Goals.{After-decide_keep, In-Again}
 
--- Past the test the state is sound.
-tested : (c : Else-not-sound) → sound_state c.args.s ≡ true
-tested c = sym c.sound.ensures ∙ c.if-not-sound.false
+-- What was decided on the state.
+decided : (c : After-decide_keep) → c.decide_keep.result ≡ keep_decision (sound_state c.args.s) (place_in c.args.s c.args.name) c.args.s.count
+decided c =
+    let s = c.args.s in
+    c.decide_keep.ensures ∙ ap (λ (t : Bool). keep_decision t (place_in s c.args.name) s.count) c.sound.ensures
 
--- The place of a name that is found.
-within : (c : In-At) → c.in-At.k < 4
-within c =
-    omega (
-      arith,
-      (standing _ (tested (goal.at.In-At c).Else-not-sound)).few,
-      place_within c.args.s c.args.name _ (sym c.in-At.ensures),
-    )
+within : (c : In-Again) → c.in-Again.place < 4
+within c = again_within c.args.s c.args.name _ (sym (decided (goal.at.In-Again c).After-decide_keep) ∙ c.in-Again.is)
 
-pub returns-then-not-sound : goal.returns-then-not-sound
-returns-then-not-sound c = c.refused.ensures ∙ sym (keep_faulty c.args.s c.args.name (sym c.sound.ensures ∙ c.if-not-sound.true))
+pub decide_keep-requires : goal.decide_keep-requires
+decide_keep-requires c = λ e. (standing c.args.s (sym c.sound.ensures ∙ e)).few
 
-pub place_of-requires : goal.place_of-requires
-place_of-requires c = (standing _ (tested (goal.at.place_of-requires c).Else-not-sound)).few
+pub offset_bounds-s-place : goal.offset_bounds-s-place
+offset_bounds-s-place c = omega (arith, within (goal.at.offset_bounds-s-place c).In-Again)
 
-pub offset_bounds-s-k : goal.offset_bounds-s-k
-offset_bounds-s-k c = omega (arith, within c)
-
-pub bounds-s-k : goal.bounds-s-k
-bounds-s-k c = within c
-
-pub returns-in-At : goal.returns-in-At
-returns-in-At c = sym (keep_again c.args.s c.args.name (tested (goal.at.returns-in-At c).Else-not-sound) _ (sym c.in-At.ensures))
-
-pub returns-then-count-ge-PLACES : goal.returns-then-count-ge-PLACES
-returns-then-count-ge-PLACES c = c.refused-then-count-ge-PLACES.ensures
-    ∙ sym (keep_fifth c.args.s c.args.name (tested (goal.at.returns-then-count-ge-PLACES c).Else-not-sound) (sym c.in_default.ensures) c.if-count-ge-PLACES.true)
-
-pub returns : goal.returns
-returns c = sym (keep_new c.args.s c.args.name (tested (goal.at.returns c).Else-not-sound) (sym c.in_default.ensures) c.if-count-ge-PLACES.false)
+pub bounds-s-place : goal.bounds-s-place
+bounds-s-place c = within (goal.at.bounds-s-place c).In-Again
