@@ -1,5 +1,6 @@
 // Keeping the current balance under a name, and going back to what is kept under one.
 ghost use Rattle.std.specs.Prelude.{◌≡◌};
+ghost use Rattle.planning.specs.State.{sound_state};
 ghost use Rattle.planning.specs.Calls as replies;
 
 use crate::decision::{decide_back, decide_keep};
@@ -7,11 +8,14 @@ use crate::test::sound;
 use crate::{Keeping, Kept, Name, Reply, Returning, State};
 use model::Answer;
 
-// Keeps the current balance under a name: in the name's place, or under a new name in the next one.
-pub fn keep(mut s: State, name: Name) -> Reply
-    ensures { result ≡ replies.keep_reply s name }
+// Keeps the current balance of a state that was tested for 0 under a name: in the name's place, or under a new name in the next one.
+// `sound` says what the test gave. A refused state stays as it was.
+pub fn keep_tested(s: &mut State, sound: bool, name: Name) -> Answer
+    requires { sound ≡ sound_state s.old }
+    ensures answer { result ≡ (replies.keep_reply s.old name).answer }
+    ensures state { s.new ≡ (replies.keep_reply s.old name).state }
 {
-    let answer = match decide_keep(&s, sound(&s), name) {
+    match decide_keep(s, sound, name) {
         Keeping::Refused { code } => Answer::Refused(code),
         Keeping::Again { place } => {
             s.kept[place].balance = s.balance;
@@ -25,7 +29,31 @@ pub fn keep(mut s: State, name: Name) -> Reply
             s.count += 1;
             Answer::Accepted
         }
-    };
+    }
+}
+
+// Goes back, in a state that was tested for 0, to what is kept under a name: that balance becomes the current one. `sound` says what the
+// test gave. A refused state stays as it was.
+pub fn back_tested(s: &mut State, sound: bool, name: Name) -> Answer
+    requires { sound ≡ sound_state s.old }
+    ensures answer { result ≡ (replies.back_reply s.old name).answer }
+    ensures state { s.new ≡ (replies.back_reply s.old name).state }
+{
+    match decide_back(s, sound, name) {
+        Returning::Refused { code } => Answer::Refused(code),
+        Returning::To { place } => {
+            s.balance = s.kept[place].balance;
+            Answer::Accepted
+        }
+    }
+}
+
+// Keeps the current balance under a name.
+pub fn keep(mut s: State, name: Name) -> Reply
+    ensures { result ≡ replies.keep_reply s name }
+{
+    let sound = sound(&s);
+    let answer = keep_tested(&mut s, sound, name);
     Reply {
         answer,
         number: 0,
@@ -33,17 +61,12 @@ pub fn keep(mut s: State, name: Name) -> Reply
     }
 }
 
-// Goes back to what is kept under a name: that balance becomes the current one.
+// Goes back to what is kept under a name.
 pub fn back(mut s: State, name: Name) -> Reply
     ensures { result ≡ replies.back_reply s name }
 {
-    let answer = match decide_back(&s, sound(&s), name) {
-        Returning::Refused { code } => Answer::Refused(code),
-        Returning::To { place } => {
-            s.balance = s.kept[place].balance;
-            Answer::Accepted
-        }
-    };
+    let sound = sound(&s);
+    let answer = back_tested(&mut s, sound, name);
     Reply {
         answer,
         number: 0,
