@@ -18,10 +18,6 @@ use Rattle.planning.specs.Calls.{place_in, keep_reply, back_reply}
 use Rattle.planning.specs.Decision.{keep_decision, back_decision, keep_as, back_as}
 use Rattle.planning.proofs.Replying.{standing, keep_by, back_by, place_within}
 
-pub keep_not : (test : Bool) (f : Found) (n : ℕ) → test ≡ false → NotKept 0 ≡ keep_decision test f n
-keep_not test (At k) n e = rw e
-keep_not test Nothing n e = rw e
-
 pub keep_found : (test : Bool) (f : Found) (n k : ℕ) → test ≡ true → f ≡ At k → Again k ≡ keep_decision test f n
 keep_found test f n k e p = rw (p, e)
 
@@ -30,10 +26,6 @@ keep_full test f n e p h = rw (p, e, le-leb place_limit n h)
 
 pub keep_free : (test : Bool) (f : Found) (n : ℕ) → test ≡ true → f ≡ Nothing → n < place_limit → Anew ≡ keep_decision test f n
 keep_free test f n e p h = rw (p, e, lt-leb place_limit n h)
-
-pub back_not : (test : Bool) (f : Found) → test ≡ false → NoReturn 0 ≡ back_decision test f
-back_not test (At k) e = rw e
-back_not test Nothing e = rw e
 
 pub back_found : (test : Bool) (f : Found) (k : ℕ) → test ≡ true → f ≡ At k → To k ≡ back_decision test f
 back_found test f k e p = rw (p, e)
@@ -64,27 +56,27 @@ back_decided s n = back_as_decided s (sound_state s) (place_in s n)
 -- What a decision says of the test and of the place.
 again_of : (test : Bool) (f : Found) (n k : ℕ) → keep_decision test f n ≡ Again k → (test ≡ true) × (f ≡ At k)
 again_of true (At j) n k e = (refl, cc)
-again_of false (At j) n k e = let w : ◌≡◌ {A = ℕ} 0 1 = cc in absurd (omega arith)
+again_of false (At j) n k e = cc
 again_of true Nothing n k e =
     by_bool (leb place_limit n)
-    (λ q. let z : NotKept 22 ≡ Again k = rw q at e in let w : ◌≡◌ {A = ℕ} 0 1 = cc in absurd (omega arith))
-    (λ q. let z : Anew ≡ Again k = rw q at e in let w : ◌≡◌ {A = ℕ} 0 1 = cc in absurd (omega arith))
-again_of false Nothing n k e = let w : ◌≡◌ {A = ℕ} 0 1 = cc in absurd (omega arith)
+    (λ q. let z : NotKept 22 ≡ Again k = rw q at e in cc)
+    (λ q. let z : Anew ≡ Again k = rw q at e in cc)
+again_of false Nothing n k e = cc
 
 anew_of : (test : Bool) (f : Found) (n : ℕ) → keep_decision test f n ≡ Anew → n < place_limit
-anew_of true (At j) n e = let w : ◌≡◌ {A = ℕ} 0 1 = cc in absurd (omega arith)
-anew_of false (At j) n e = let w : ◌≡◌ {A = ℕ} 0 1 = cc in absurd (omega arith)
+anew_of true (At j) n e = cc
+anew_of false (At j) n e = cc
 anew_of true Nothing n e =
     by_bool (leb place_limit n)
-    (λ q. let z : NotKept 22 ≡ Anew = rw q at e in let w : ◌≡◌ {A = ℕ} 0 1 = cc in absurd (omega arith))
+    (λ q. let z : NotKept 22 ≡ Anew = rw q at e in cc)
     (λ q. leb-false _ _ q)
-anew_of false Nothing n e = let w : ◌≡◌ {A = ℕ} 0 1 = cc in absurd (omega arith)
+anew_of false Nothing n e = cc
 
 to_of : (test : Bool) (f : Found) (k : ℕ) → back_decision test f ≡ To k → (test ≡ true) × (f ≡ At k)
 to_of true (At j) k e = (refl, cc)
-to_of false (At j) k e = let w : ◌≡◌ {A = ℕ} 0 1 = cc in absurd (omega arith)
-to_of true Nothing k e = let w : ◌≡◌ {A = ℕ} 0 1 = cc in absurd (omega arith)
-to_of false Nothing k e = let w : ◌≡◌ {A = ℕ} 0 1 = cc in absurd (omega arith)
+to_of false (At j) k e = cc
+to_of true Nothing k e = cc
+to_of false Nothing k e = cc
 
 -- A place that is decided on is one of the four.
 module _ (s : State) (n : Name) where

@@ -1,5 +1,6 @@
 -- The proofs of planning states.
 pub mod Naming
+pub mod Places
 pub mod Replying
 pub mod Promises
 pub mod Deciding

@@ -1,52 +1,61 @@
 -- Names: when two are the same, and which are kept. Assumes nothing.
-use Prim.Native.Nat.{ℕ, ◌<◌}
-use mathlib.Core.Path.{◌≡◌, refl, sym, ap, subst, ◌∙◌}
+use Prim.Native.Nat.{ℕ}
+use mathlib.Core.Path.{◌≡◌, sym, ap, ◌∙◌}
 use mathlib.Core.Logic.{◌↔◌}
-use mathlib.Core.Bool.{true, false, not}
+use mathlib.Core.Bool.{true, false, not, true≢false}
 use mathlib.Core.List.{List}
 use lib.Dec.{eqb}
 use lib.ListN.{length, get_or}
 use lib.Seq.{ext_get_or}
 use native.Mathlib.Omega.{arith}
 use borrow.Author.Tests.{eq-eqb, eqb-true}
+use Rattle.std.specs.Cmp.Lexicographic.{bytes_decides}
+use Rattle.std.proofs.lemmas.Cmp.{nat_list_eq_equiv}
 use Rattle.laws.specs.Sum.{every}
+use Rattle.laws.proofs.Cases.{by_bool}
 use Rattle.laws.proofs.Every.{every_each, each_every, every_fails}
 use Rattle.model.specs.declared.Found.TheVariants.{At, Nothing}
 use Rattle.river.proofs.Firsts.{nothing_passed, at_first}
 use Rattle.planning.specs.declared.Name.{Name}
-use Rattle.planning.specs.Names.{name_length, same_name, name_at, place_of}
-
--- Names that are the same have the same eight bytes, and the other way round.
-module _ (a b : Name) where
-  bytes_of : same_name a b ≡ true → (k : ℕ) → k < name_length → get_or a.bytes k 0 ≡ get_or b.bytes k 0
-  bytes_of e k h = eqb-true _ _ (every_each (λ j. eqb (get_or a.bytes j 0) (get_or b.bytes j 0)) name_length e k h)
-
-  same_of : ((k : ℕ) → k < name_length → get_or a.bytes k 0 ≡ get_or b.bytes k 0) → same_name a b ≡ true
-  same_of f = each_every (λ j. eqb (get_or a.bytes j 0) (get_or b.bytes j 0)) name_length (λ k h. eq-eqb _ _ (f k h))
+use Rattle.planning.specs.Names.{name_length, same_name, place_of}
 
 -- A name is the same as itself; names that are the same are so either way round, and through a third.
 pub same_self : (a : Name) → same_name a a ≡ true
-same_self a = same_of a a (λ k h. refl)
+same_self a = nat_list_eq_equiv.refl a.bytes
 
 pub same_sym : (a b : Name) → same_name a b ≡ true → same_name b a ≡ true
-same_sym a b e = same_of b a (λ k h. sym (bytes_of a b e k h))
+same_sym a b e = nat_list_eq_equiv.symm b.bytes a.bytes ∙ e
 
 pub same_through : (a b c : Name) → same_name a b ≡ true → same_name b c ≡ true → same_name a c ≡ true
-same_through a b c e f = same_of a c (λ k h. bytes_of a b e k h ∙ bytes_of b c f k h)
+same_through a b c e f = nat_list_eq_equiv.congr a.bytes b.bytes c.bytes e ∙ f
 
--- Two names of eight bytes are the same exactly when they are equal.
-pub same_exactly : (a b : Name) → length a.bytes ≡ name_length → length b.bytes ≡ name_length → (same_name a b ≡ true) ↔ (a ≡ b)
-same_exactly a b p q = (
-  λ e. ap (λ (l : List ℕ). record { bytes = l })
-      (ext_get_or 0 a.bytes b.bytes (p ∙ sym q) (λ k h. bytes_of a b e k (omega arith))),
-  λ e. subst (λ (x : Name). same_name a x ≡ true) e (same_self a),
+-- Two names are the same exactly when they are equal.
+pub same_exactly : (a b : Name) → (same_name a b ≡ true) ↔ (a ≡ b)
+same_exactly a b = (
+  λ e. ap (λ (l : List ℕ). record { bytes = l }) ((bytes_decides a.bytes b.bytes).0 e),
+  λ e. (bytes_decides a.bytes b.bytes).1 (ap (λ (n : Name). n.bytes) e),
 )
 
+-- Names of eight bytes are the same exactly if each of the eight is.
+every_byte : (a b : Name) → length a.bytes ≡ name_length → length b.bytes ≡ name_length
+    → every name_length (λ k. eqb (get_or a.bytes k 0) (get_or b.bytes k 0)) ≡ true → a.bytes ≡ b.bytes
+every_byte a b p q e =
+    ext_get_or 0 a.bytes b.bytes (p ∙ sym q)
+    (λ k h. eqb-true _ _ (every_each (λ j. eqb (get_or a.bytes j 0) (get_or b.bytes j 0)) name_length e k (omega arith)))
+
+pub same_each : (a b : Name) → length a.bytes ≡ name_length → length b.bytes ≡ name_length
+    → same_name a b ≡ every name_length (λ k. eqb (get_or a.bytes k 0) (get_or b.bytes k 0))
+same_each a b p q =
+    by_bool (same_name a b)
+    (λ e. e ∙ sym (each_every _ name_length (λ k h. eq-eqb _ _ (ap (λ (l : List ℕ). get_or l k 0) ((bytes_decides a.bytes b.bytes).0 e)))))
+    (λ e.
+    by_bool (every name_length (λ k. eqb (get_or a.bytes k 0) (get_or b.bytes k 0)))
+    (λ g. absurd (true≢false (sym ((bytes_decides a.bytes b.bytes).1 (every_byte a b p q g)) ∙ e)))
+    (λ g. e ∙ sym g))
+
 -- No place before one has a name exactly where the search of the name among them finds nothing.
-pub none_before : (names : List Name) (k : ℕ) (n : Name) → place_of names k n ≡ Nothing
-    → every k (λ j. not (same_name (name_at names j) n)) ≡ true
+pub none_before : (names : ℕ → Name) (k : ℕ) (n : Name) → place_of names k n ≡ Nothing → every k (λ j. not (same_name (names j) n)) ≡ true
 none_before names k n e = each_every _ k (λ j h. ap not (nothing_passed _ k e j h))
 
-pub some_before : (names : List Name) (k i : ℕ) (n : Name) → place_of names k n ≡ At i
-    → every k (λ j. not (same_name (name_at names j) n)) ≡ false
+pub some_before : (names : ℕ → Name) (k i : ℕ) (n : Name) → place_of names k n ≡ At i → every k (λ j. not (same_name (names j) n)) ≡ false
 some_before names k i n e = let f = at_first _ k i e in every_fails _ k i f.0 (ap not f.2)

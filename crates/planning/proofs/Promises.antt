@@ -4,7 +4,7 @@ use mathlib.Core.Path.{◌≡◌, refl, sym, ap, subst⁻¹, ◌∙◌}
 use mathlib.Core.Logic.{◌↔◌}
 use mathlib.Core.Bool.{true, not}
 use mathlib.Core.List.{List}
-use lib.ListN.{length, set}
+use lib.ListN.{length, get_or, set}
 use lib.Seq.{get_or-set_same, get_or-set_other}
 use native.Mathlib.Omega.{arith}
 use Rattle.laws.specs.Sum.{every}
@@ -20,19 +20,20 @@ use Rattle.river.proofs.Firsts.{nothing_passed}
 use Rattle.basin.specs.Sound.{sound}
 use Rattle.book.proofs.Promises.{opening_sound}
 use Rattle.planning.specs.declared.Name.{Name}
+use Rattle.planning.specs.declared.Kept.{Kept}
 use Rattle.planning.specs.declared.State.{State}
 use Rattle.planning.specs.declared.Reply.{Reply}
-use Rattle.planning.specs.Names.{place_limit, same_name, name_at, place_of, distinct}
-use Rattle.planning.specs.State.{Sized, balance_at, kept_sound, sound_state}
+use Rattle.planning.specs.Names.{place_limit, same_name, place_of, distinct}
+use Rattle.planning.specs.State.{Sized, no_kept, name_at, kept_sound, sound_state}
 use Rattle.planning.specs.Calls.{place_in, keep_refusal, back_refusal, keeping, going_back, replied, keep_reply, back_reply, opened_state}
 use Rattle.planning.proofs.Replying.{standing, stands, keep_faulty, keep_again, keep_fifth, keep_new, back_faulty, back_none, back_to, place_within}
 
 -- Nothing kept is sound, and no name is kept twice.
-none_sound : (kept : List Balance) → kept_sound kept 0 ≡ true
+none_sound : (kept : List Kept) → kept_sound kept 0 ≡ true
 unfolding kept_sound every
 none_sound kept = refl
 
-none_twice : (names : List Name) → distinct names 0 ≡ true
+none_twice : (names : ℕ → Name) → distinct names 0 ≡ true
 unfolding distinct every
 none_twice names = refl
 
@@ -42,32 +43,42 @@ opened_sound s =
     stands (opened_state s).state (record { current = opening_sound s; few = omega arith; kept = none_sound _; apart = none_twice _ })
 
 -- A sound balance that is put in a place leaves all in use sound.
-kept_put : (kept : List Balance) (n m k : ℕ) (b : Balance) → k < length kept → sound (view_of b) ≡ true → kept_sound kept n ≡ true
-    → ((j : ℕ) → j < m → (j ≡ k → ⊥) → j < n) → kept_sound (set kept k b) m ≡ true
+kept_put : (kept : List Kept) (n m k : ℕ) (x : Kept) → k < length kept → sound (view_of x.balance) ≡ true → kept_sound kept n ≡ true
+    → ((j : ℕ) → j < m → (j ≡ k → ⊥) → j < n) → kept_sound (set kept k x) m ≡ true
 unfolding kept_sound
-kept_put kept n m k b h e all used =
+kept_put kept n m k x h e all used =
     each_every _ m
     (λ j g.
     by_eq j k
-    (λ q. subst⁻¹ (λ (x : Balance). sound (view_of x) ≡ true) (ap (λ (i : ℕ). balance_at (set kept k b) i) q ∙ get_or-set_same kept k b _ h) e)
-    (λ q. subst⁻¹ (λ (x : Balance). sound (view_of x) ≡ true) (get_or-set_other kept k j b _ q) (every_each _ n all j (used j g q))))
+    (λ q. subst⁻¹ (λ (y : Kept). sound (view_of y.balance) ≡ true) (ap (λ (i : ℕ). get_or (set kept k x) i no_kept) q ∙ get_or-set_same kept k x _ h) e)
+    (λ q. subst⁻¹ (λ (y : Kept). sound (view_of y.balance) ≡ true) (get_or-set_other kept k j x _ q) (every_each _ n all j (used j g q))))
+
+-- Names that are all different stay so where one is put in its own place.
+names_same : (kept : List Kept) (k : ℕ) (b : Balance) → k < length kept → name_at (set kept k (record { name = name_at kept k; balance = b })) ≡ name_at kept
+names_same kept k b h = λ i j. each j i
+  where
+    each : (j : ℕ) → name_at (set kept k (record { name = name_at kept k; balance = b })) j ≡ name_at kept j
+    each j =
+        by_eq j k
+        (λ q. rw q (ap (λ (x : Kept). x.name) (get_or-set_same kept k _ _ h)))
+        (λ q. ap (λ (x : Kept). x.name) (get_or-set_other kept k j _ _ q))
 
 -- A name that is not yet kept leaves all names different.
-names_put : (names : List Name) (n : ℕ) (name : Name) → n < length names → distinct names n ≡ true → place_of names n name ≡ Nothing
-    → distinct (set names n name) (n + 1) ≡ true
+names_put : (kept : List Kept) (n : ℕ) (x : Kept) → n < length kept → distinct (name_at kept) n ≡ true → place_of (name_at kept) n x.name ≡ Nothing
+    → distinct (name_at (set kept n x)) (n + 1) ≡ true
 unfolding distinct
-names_put names n name h all new =
+names_put kept n x h all new =
     each_every _ (n + 1)
     (λ k g.
     each_every _ k
     (λ j i.
-    let other : name_at (set names n name) j ≡ name_at names j = get_or-set_other names n j name _ (λ q. omega arith) in
+    let other : name_at (set kept n x) j ≡ name_at kept j = ap (λ (y : Kept). y.name) (get_or-set_other kept n j x _ (λ q. omega arith)) in
     by_eq k n
     (λ q.
-    (λ t. not (same_name (other t) ((ap (name_at (set names n name)) q ∙ get_or-set_same names n name _ h) t)))
+    (λ t. not (same_name (other t) ((ap (name_at (set kept n x)) q ∙ ap (λ (y : Kept). y.name) (get_or-set_same kept n x _ h)) t)))
     ∙ ap not (nothing_passed _ n new j (omega arith)))
     (λ q.
-    let here : name_at (set names n name) k ≡ name_at names k = get_or-set_other names n k name _ q in
+    let here : name_at (set kept n x) k ≡ name_at kept k = ap (λ (y : Kept). y.name) (get_or-set_other kept n k x _ q) in
     (λ t. not (same_name (other t) (here t))) ∙ every_each _ k (every_each _ n all k (omega arith)) j i)))
 
 module _ (s : State) (n : Name) (z : Sized s) (e : sound_state s ≡ true) where
@@ -75,25 +86,27 @@ module _ (s : State) (n : Name) (z : Sized s) (e : sound_state s ≡ true) where
   kept_again_sound k p =
       let w = standing s e in
       let h = place_within s n k p in
+      let l : k < length s.kept = omega (arith, z.kept, w.few) in
       subst⁻¹ (λ (r : Reply). sound_state r.state ≡ true) (keep_again s n e k p)
       (stands _
       (record {
         current = w.current;
         few = w.few;
-        kept = kept_put s.kept s.count s.count k s.balance (omega (arith, z.kept, w.few)) w.current w.kept (λ j g q. g);
-        apart = w.apart;
+        kept = kept_put s.kept s.count s.count k _ l w.current w.kept (λ j g q. g);
+        apart = ap (λ (f : ℕ → Name). distinct f s.count) (names_same s.kept k s.balance l) ∙ w.apart;
       }))
 
   kept_new_sound : place_in s n ≡ Nothing → s.count < place_limit → sound_state (keep_reply s n).state ≡ true
   kept_new_sound p h =
       let w = standing s e in
+      let l : s.count < length s.kept = omega (arith, z.kept) in
       subst⁻¹ (λ (r : Reply). sound_state r.state ≡ true) (keep_new s n e p h)
       (stands _
       (record {
         current = w.current;
         few = omega arith;
-        kept = kept_put s.kept s.count (s.count + 1) s.count s.balance (omega (arith, z.kept)) w.current w.kept (λ j g q. omega arith);
-        apart = names_put s.names s.count n (omega (arith, z.names)) w.apart p;
+        kept = kept_put s.kept s.count (s.count + 1) s.count _ l w.current w.kept (λ j g q. omega arith);
+        apart = names_put s.kept s.count _ l w.apart p;
       }))
 
   kept_sound_by : (f : Found) → place_in s n ≡ f → sound_state (keep_reply s n).state ≡ true
@@ -127,13 +140,10 @@ module _ (s : State) (n : Name) (z : Sized s) where
 -- What a reply says: accepted exactly if no refusal applies; refused, the state is the old one.
 replied_exactly : (r : Refusal) (old new : State) → ((replied r old new).answer ≡ Accepted) ↔ (r ≡ none)
 replied_exactly none old new = (λ e. refl, λ e. refl)
-replied_exactly (number k) old new = (
-  λ e. let w : ◌≡◌ {A = ℕ} 0 1 = cc in absurd (omega arith),
-  λ e. let w : ◌≡◌ {A = ℕ} 0 1 = cc in absurd (omega arith),
-)
+replied_exactly (number k) old new = (λ e. cc, λ e. cc)
 
 replied_refused : (r : Refusal) (old new : State) (k : ℕ) → (replied r old new).answer ≡ Refused k → (replied r old new).state ≡ old
-replied_refused none old new k e = let w : ◌≡◌ {A = ℕ} 0 1 = cc in absurd (omega arith)
+replied_refused none old new k e = cc
 replied_refused (number m) old new k e = refl
 
 -- On every state keeping and going back are accepted exactly when none of their refusals applies, 0 included.

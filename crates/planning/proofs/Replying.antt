@@ -1,9 +1,8 @@
 -- A sound state by its parts, and the replies of keeping and going back by what the test and the search gave. Assumes nothing.
 use Prim.Native.Nat.{ℕ, ◌+◌, ◌≤◌, ◌<◌}
-use mathlib.Core.Path.{◌≡◌}
+use mathlib.Core.Path.{◌≡◌, sym}
 use mathlib.Core.Bool.{Bool, true, false, not, ◌&&◌}
 use lib.Dec.{leb}
-use lib.ListN.{set}
 use borrow.Author.Tests.{le-leb, lt-leb, leb-true}
 use Rattle.laws.proofs.Every.{both}
 use Rattle.laws.proofs.Chain.{t_and}
@@ -17,15 +16,15 @@ use Rattle.planning.specs.declared.Name.{Name}
 use Rattle.planning.specs.declared.State.{State}
 use Rattle.planning.specs.declared.Reply.{Reply}
 use Rattle.planning.specs.Names.{place_limit, is_found, distinct}
-use Rattle.planning.specs.State.{balance_at, kept_sound, sound_state}
-use Rattle.planning.specs.Calls.{place_in, with_current, with_kept, kept_in, returned_to, replied, keep_reply, back_reply}
+use Rattle.planning.specs.State.{name_at, balance_at, kept_sound, sound_state}
+use Rattle.planning.specs.Calls.{place_in, with_current, with_kept, kept_under, kept_in, returned_to, replied, keep_reply, back_reply}
 
 -- What holds of a sound state.
 pub record Standing (s : State) : Type 0 where
   pub current : sound (view_of s.balance) ≡ true
   pub few : s.count ≤ place_limit
   pub kept : kept_sound s.kept s.count ≡ true
-  pub apart : distinct s.names s.count ≡ true
+  pub apart : distinct (name_at s.kept) s.count ≡ true
 
 pub standing : (s : State) → sound_state s ≡ true → Standing s
 unfolding sound_state
@@ -38,6 +37,12 @@ standing s e =
 pub stands : (s : State) → Standing s → sound_state s ≡ true
 unfolding sound_state
 stands s p = t_and _ _ p.current (t_and _ _ (le-leb _ _ p.few) (t_and _ _ p.kept p.apart))
+
+-- The test for 0 past the current balance and the number of the kept ones.
+pub sound_by : (s : State) (all apart : Bool) → sound (view_of s.balance) ≡ true → s.count ≤ place_limit → all ≡ kept_sound s.kept s.count
+    → apart ≡ distinct (name_at s.kept) s.count → all && apart ≡ sound_state s
+unfolding sound_state
+sound_by s all apart e h p q = λ i. sym e i && (sym (le-leb s.count place_limit h) i && (p i && q i))
 
 -- The replies by what the test for 0 gave and where the name was found.
 abbrev pub keep_by : State → Name → Bool → Found → Bool → Reply
@@ -54,14 +59,14 @@ module _ (s : State) (n : Name) where
   back_faulty e = λ i. back_by s (e i) (place_in s n)
 
   module _ (e : sound_state s ≡ true) where
-    pub keep_again : (k : ℕ) → place_in s n ≡ At k → keep_reply s n ≡ replied none s (with_kept s s.names (set s.kept k s.balance) s.count)
+    pub keep_again : (k : ℕ) → place_in s n ≡ At k → keep_reply s n ≡ replied none s (with_kept s (kept_under s k (name_at s.kept k)) s.count)
     keep_again k p = λ i. keep_by s n (e i) (p i) (leb place_limit s.count)
 
     pub keep_fifth : place_in s n ≡ Nothing → place_limit ≤ s.count → keep_reply s n ≡ replied (number 22) s s
     keep_fifth p h = λ i. keep_by s n (e i) (p i) (le-leb place_limit s.count h i)
 
     pub keep_new : place_in s n ≡ Nothing → s.count < place_limit
-        → keep_reply s n ≡ replied none s (with_kept s (set s.names s.count n) (set s.kept s.count s.balance) (s.count + 1))
+        → keep_reply s n ≡ replied none s (with_kept s (kept_under s s.count n) (s.count + 1))
     keep_new p h = λ i. keep_by s n (e i) (p i) (lt-leb place_limit s.count h i)
 
     pub back_none : place_in s n ≡ Nothing → back_reply s n ≡ replied (number 23) s s

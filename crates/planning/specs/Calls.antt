@@ -1,4 +1,4 @@
--- Keeping, going back, and opening a book as a state (document 02 [3]). Assumes nothing.
+-- Keeping, going back, and opening a book as a state. Assumes nothing.
 use Rattle.std.specs.Prelude.{ℕ, ◌+◌, Bool, not, ◌&&◌, List, leb, set}
 use Rattle.model.specs.declared.Balance.{Balance}
 use Rattle.model.specs.declared.Found.{Found}
@@ -6,15 +6,16 @@ use Rattle.model.specs.declared.Found.TheVariants.{At, Nothing}
 use Rattle.model.specs.Answers.{Refusal, none, number, refuse, answered}
 use Rattle.book.specs.Reading.{opened}
 use Rattle.planning.specs.declared.Name.{Name}
+use Rattle.planning.specs.declared.Kept.{Kept}
 use Rattle.planning.specs.declared.State.{State}
 use Rattle.planning.specs.declared.Reply.{Reply}
 use Rattle.planning.specs.declared.Opened.{Opened}
 use Rattle.planning.specs.Names.{place_limit, place_of, is_found}
-use Rattle.planning.specs.State.{nothing_kept, balance_at, sound_state}
+use Rattle.planning.specs.State.{nothing_kept, name_at, balance_at, sound_state}
 
 -- The place that has a name among those in use, and whether something is kept under it.
 abbrev pub place_in : State → Name → Found
-place_in s n = place_of s.names s.count n
+place_in s n = place_of (name_at s.kept) s.count n
 
 abbrev pub is_kept : State → Name → Bool
 is_kept s n = is_found (place_in s n)
@@ -31,16 +32,20 @@ back_refusal s n = after_test s (refuse 23 (not (is_kept s n)) none)
 
 -- The state with another current balance; nothing of what is kept changes.
 abbrev pub with_current : State → Balance → State
-with_current s b = record { balance = b; names = s.names; kept = s.kept; count = s.count }
+with_current s b = record { balance = b; kept = s.kept; count = s.count }
 
--- The state with these names and balances kept; the current balance stays.
-abbrev pub with_kept : State → List Name → List Balance → ℕ → State
-with_kept s names kept count = record { balance = s.balance; names = names; kept = kept; count = count }
+-- The state with these balances kept, each under its name; the current balance stays.
+abbrev pub with_kept : State → List Kept → ℕ → State
+with_kept s kept count = record { balance = s.balance; kept = kept; count = count }
 
--- Keeping under a used name replaces the balance in its place; a new name takes the next place.
+-- The balances that are kept, the current one in place k under a name.
+abbrev pub kept_under : State → ℕ → Name → List Kept
+kept_under s k n = set s.kept k (record { name = n; balance = s.balance })
+
+-- Keeping under a used name replaces the balance in its place, whose name stays; a new name takes the next place.
 abbrev pub kept_in : State → Name → Found → State
-kept_in s n (At k) = with_kept s s.names (set s.kept k s.balance) s.count
-kept_in s n Nothing = with_kept s (set s.names s.count n) (set s.kept s.count s.balance) (s.count + 1)
+kept_in s n (At k) = with_kept s (kept_under s k (name_at s.kept k)) s.count
+kept_in s n Nothing = with_kept s (kept_under s s.count n) (s.count + 1)
 
 abbrev pub keeping : State → Name → State
 keeping s n = kept_in s n (place_in s n)

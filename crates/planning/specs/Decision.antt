@@ -1,6 +1,5 @@
--- What keeping and going back come to, by the test for 0, the place that has the name, and how many are kept (document 02 [3]).
--- Assumes nothing.
-use Rattle.std.specs.Prelude.{ℕ, ◌+◌, Bool, cond, leb, set}
+-- What keeping and going back come to, by the test for 0, the place that has the name, and how many are kept. Assumes nothing.
+use Rattle.std.specs.Prelude.{ℕ, ◌+◌, Bool, cond, leb}
 use Rattle.model.specs.declared.Found.{Found}
 use Rattle.model.specs.declared.Found.TheVariants.{At, Nothing}
 use Rattle.model.specs.Answers.{none, number}
@@ -12,8 +11,8 @@ use Rattle.planning.specs.declared.Keeping.TheVariants.{Refused as NotKept, Agai
 use Rattle.planning.specs.declared.Returning.{Returning}
 use Rattle.planning.specs.declared.Returning.TheVariants.{Refused as NoReturn, To}
 use Rattle.planning.specs.Names.{place_limit}
-use Rattle.planning.specs.State.{balance_at}
-use Rattle.planning.specs.Calls.{with_current, with_kept, replied}
+use Rattle.planning.specs.State.{name_at, balance_at}
+use Rattle.planning.specs.Calls.{with_current, with_kept, kept_under, replied}
 
 -- Keeping: 0, then under a used name in its place, then 22 a fifth name, then in the next place.
 abbrev pub keep_decision : Bool → Found → ℕ → Keeping
@@ -28,8 +27,8 @@ back_decision sound Nothing = cond sound (NoReturn 23) (NoReturn 0)
 -- The replies by these.
 abbrev pub keep_as : State → Name → Keeping → Reply
 keep_as s n (NotKept k) = replied (number k) s s
-keep_as s n (Again k) = replied none s (with_kept s s.names (set s.kept k s.balance) s.count)
-keep_as s n Anew = replied none s (with_kept s (set s.names s.count n) (set s.kept s.count s.balance) (s.count + 1))
+keep_as s n (Again k) = replied none s (with_kept s (kept_under s k (name_at s.kept k)) s.count)
+keep_as s n Anew = replied none s (with_kept s (kept_under s s.count n) (s.count + 1))
 
 abbrev pub back_as : State → Returning → Reply
 back_as s (NoReturn k) = replied (number k) s s

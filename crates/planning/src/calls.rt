@@ -1,73 +1,75 @@
 // Keeping the current balance under a name, and going back to what is kept under one.
 ghost use Rattle.std.specs.Prelude.{◌≡◌};
-ghost use Rattle.model.specs.Answers.{number};
+ghost use Rattle.planning.specs.State.{sound_state};
 ghost use Rattle.planning.specs.Calls as replies;
 
-use crate::names::place_of;
+use crate::decision::{decide_back, decide_keep};
 use crate::test::sound;
-use crate::{Name, Reply, State};
-use model::{Answer, Found};
+use crate::{Keeping, Kept, Name, Reply, Returning, State};
+use model::Answer;
 
-// A refused call hands back the old state.
-fn refused(s: State, code: u8) -> Reply
-    ensures { result ≡ replies.replied (number code) s s }
+// Keeps the current balance of a state that was tested for 0 under a name: in the name's place, or under a new name in the next one.
+// `sound` says what the test gave. A refused state stays as it was.
+pub fn keep_tested(s: &mut State, sound: bool, name: Name) -> Answer
+    requires { sound ≡ sound_state s.old }
+    ensures answer { result ≡ (replies.keep_reply s.old name).answer }
+    ensures state { s.new ≡ (replies.keep_reply s.old name).state }
 {
-    Reply {
-        answer: Answer::Refused(code),
-        number: 0,
-        state: s,
+    match decide_keep(s, sound, name) {
+        Keeping::Refused { code } => Answer::Refused(code),
+        Keeping::Again { place } => {
+            s.kept[place].balance = s.balance;
+            Answer::Accepted
+        }
+        Keeping::Anew => {
+            s.kept[s.count] = Kept {
+                name,
+                balance: s.balance,
+            };
+            s.count += 1;
+            Answer::Accepted
+        }
     }
 }
 
-// Keeps the current balance under a name: in the name's place, or under a new name in the next one.
+// Goes back, in a state that was tested for 0, to what is kept under a name: that balance becomes the current one. `sound` says what the
+// test gave. A refused state stays as it was.
+pub fn back_tested(s: &mut State, sound: bool, name: Name) -> Answer
+    requires { sound ≡ sound_state s.old }
+    ensures answer { result ≡ (replies.back_reply s.old name).answer }
+    ensures state { s.new ≡ (replies.back_reply s.old name).state }
+{
+    match decide_back(s, sound, name) {
+        Returning::Refused { code } => Answer::Refused(code),
+        Returning::To { place } => {
+            s.balance = s.kept[place].balance;
+            Answer::Accepted
+        }
+    }
+}
+
+// Keeps the current balance under a name.
 pub fn keep(mut s: State, name: Name) -> Reply
     ensures { result ≡ replies.keep_reply s name }
 {
-    if !sound(s) {
-        return refused(s, 0);
-    }
-    let names = s.names;
-    let count = s.count;
-    let balance = s.balance;
-    if let Found::At(k) = place_of(names, count, name) {
-        s.kept[k] = balance;
-        return Reply {
-            answer: Answer::Accepted,
-            number: 0,
-            state: s,
-        };
-    }
-    if State::PLACES <= count {
-        return refused(s, 22);
-    }
-    s.names[count] = name;
-    s.kept[count] = balance;
-    s.count = count + 1;
+    let sound = sound(&s);
+    let answer = keep_tested(&mut s, sound, name);
     Reply {
-        answer: Answer::Accepted,
+        answer,
         number: 0,
         state: s,
     }
 }
 
-// Goes back to what is kept under a name: that balance becomes the current one.
+// Goes back to what is kept under a name.
 pub fn back(mut s: State, name: Name) -> Reply
     ensures { result ≡ replies.back_reply s name }
 {
-    if !sound(s) {
-        return refused(s, 0);
-    }
-    let names = s.names;
-    match place_of(names, s.count, name) {
-        Found::Nothing => refused(s, 23),
-        Found::At(k) => {
-            let balance = s.kept[k];
-            s.balance = balance;
-            Reply {
-                answer: Answer::Accepted,
-                number: 0,
-                state: s,
-            }
-        }
+    let sound = sound(&s);
+    let answer = back_tested(&mut s, sound, name);
+    Reply {
+        answer,
+        number: 0,
+        state: s,
     }
 }

@@ -1,54 +1,37 @@
 // What keeping under a name and going back to one come to, on a state that was tested for 0.
-ghost use Rattle.std.specs.Prelude.{◌≡◌, ◌≤◌, true, length};
-ghost use Rattle.planning.specs.Names as named;
-ghost use Rattle.planning.specs.State.{Sized};
+ghost use Rattle.std.specs.Prelude.{◌≡◌, ◌≤◌, true};
+ghost use Rattle.planning.specs.Names.{place_limit};
+ghost use Rattle.planning.specs.Calls.{place_in};
 ghost use Rattle.planning.specs.Decision as decisions;
 
 use crate::names::place_of;
 use crate::{Keeping, Name, Returning, State};
-use model::{Balance, Found};
-
-// Two arrays have their four places.
-fn lengths(names: [Name; State::PLACES], kept: [Balance; State::PLACES])
-    ensures names { length names ≡ named.place_limit }
-    ensures kept { length kept ≡ named.place_limit }
-{}
-
-// The arrays of a state have their four places. A caller's proof takes this from the call; nothing is answered.
-pub fn sized(s: State)
-    ensures { Sized s }
-{
-    let names = s.names;
-    let kept = s.kept;
-    lengths(names, kept);
-}
+use model::Found;
 
 // Keeping: refused with 0 or 22, in the place that has the name, or in the next one. `sound` says what the test for 0 gave.
-pub fn decide_keep(names: [Name; State::PLACES], count: usize, sound: bool, name: Name) -> Keeping
-    requires { sound ≡ true → count ≤ named.place_limit }
-    ensures { result ≡ decisions.keep_decision sound (named.place_of names count name) count }
+pub fn decide_keep(s: &State, sound: bool, name: Name) -> Keeping
+    requires { sound ≡ true → s.now.count ≤ place_limit }
+    ensures { result ≡ decisions.keep_decision sound (place_in s.now name) s.now.count }
 {
     if !sound {
         return Keeping::Refused { code: 0 };
     }
-    if let Found::At(place) = place_of(names, count, name) {
-        return Keeping::Again { place };
+    match place_of(&s.kept[..s.count], name) {
+        Found::At(place) => Keeping::Again { place },
+        Found::Nothing if s.count < State::PLACES => Keeping::Anew,
+        Found::Nothing => Keeping::Refused { code: 22 },
     }
-    if State::PLACES <= count {
-        return Keeping::Refused { code: 22 };
-    }
-    Keeping::Anew
 }
 
 // Going back: refused with 0 or 23, or to the place that has the name. `sound` says what the test for 0 gave.
-pub fn decide_back(names: [Name; State::PLACES], count: usize, sound: bool, name: Name) -> Returning
-    requires { sound ≡ true → count ≤ named.place_limit }
-    ensures { result ≡ decisions.back_decision sound (named.place_of names count name) }
+pub fn decide_back(s: &State, sound: bool, name: Name) -> Returning
+    requires { sound ≡ true → s.now.count ≤ place_limit }
+    ensures { result ≡ decisions.back_decision sound (place_in s.now name) }
 {
     if !sound {
         return Returning::Refused { code: 0 };
     }
-    match place_of(names, count, name) {
+    match place_of(&s.kept[..s.count], name) {
         Found::At(place) => Returning::To { place },
         Found::Nothing => Returning::Refused { code: 23 },
     }

@@ -1,4 +1,4 @@
-// Planning states: the current balance, and up to four balances kept under names, to come back to (document 02 [3]).
+// Planning states: the current balance, and up to four balances kept under names, to come back to.
 #![tactic(auto)]
 
 mod calls;
@@ -10,24 +10,30 @@ mod test;
 ghost use Rattle.std.specs.Prelude.{◌≡◌};
 ghost use Rattle.planning.specs.State as states;
 
-pub use calls::{back, keep};
+pub use calls::{back, back_tested, keep, keep_tested};
 use model::Balance;
 pub use opening::open_book;
 pub use test::sound;
 
 // A name of eight bytes. Any eight bytes are a name.
-#[derive(Clone, Copy)]
+#[derive(Clone, Copy, PartialEq, Eq)]
 pub struct Name {
     pub bytes: [u8; Name::BYTES],
 }
 
-// The current balance, and the balances that are kept: how many, and each one's name and balance, in the order in which the names were
-// first kept.
+// A balance that is kept, and the name that it is kept under.
+#[derive(Clone, Copy)]
+pub struct Kept {
+    pub name: Name,
+    pub balance: Balance,
+}
+
+// The current balance, and the balances that are kept: how many, and each one with its name, in the order in which the names were first
+// kept. The count is a number of its own, since a state that comes with more than four is answered with 0.
 #[derive(Clone, Copy)]
 pub struct State {
     pub balance: Balance,
-    pub names: [Name; State::PLACES],
-    pub kept: [Balance; State::PLACES],
+    pub kept: [Kept; State::PLACES],
     pub count: usize,
 }
 
@@ -77,6 +83,18 @@ impl Name {
     }
 }
 
+impl Kept {
+    // A place that is not in use.
+    pub fn empty() -> Self
+        ensures { result ≡ states.empty_kept }
+    {
+        Kept {
+            name: Name::empty(),
+            balance: Balance::fresh(),
+        }
+    }
+}
+
 impl State {
     // How many balances can be kept.
     pub const PLACES: usize = 4;
@@ -85,12 +103,9 @@ impl State {
     pub fn nothing_kept(balance: Balance) -> Self
         ensures { result ≡ states.nothing_kept balance }
     {
-        let name = Name::empty();
-        let fresh = Balance::fresh();
         State {
             balance,
-            names: [name; Self::PLACES],
-            kept: [fresh; Self::PLACES],
+            kept: [Kept::empty(); Self::PLACES],
             count: 0,
         }
     }

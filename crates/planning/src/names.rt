@@ -1,54 +1,33 @@
 // Names of eight bytes, and the places that hold them.
-ghost use Rattle.std.specs.Prelude.{◌≡◌, ◌≤◌};
+ghost use Rattle.std.specs.Prelude.{◌≡◌, ◌<◌, not, length};
+ghost use Rattle.laws.specs.Sum.{every};
 ghost use Rattle.planning.specs.Names as named;
+ghost use Rattle.planning.specs.State.{name_at};
 
-use crate::{Name, State};
+use crate::{Kept, Name};
 use model::Found;
 
-// Two names have the same eight bytes.
-fn same(a: Name, b: Name) -> bool
-    ensures { result ≡ named.same_name a b }
+// The first of some places that has a name, if one has it.
+pub(crate) fn place_of(kept: &[Kept], name: Name) -> Found
+    ensures { result ≡ named.place_of (name_at kept.now) (length kept.now) name }
 {
-    let mut k = 0;
-    while k < Name::BYTES {
-        if a.bytes[k] != b.bytes[k] {
-            return false;
-        }
-        k += 1;
+    match kept.iter().position(|held| held.name == name) {
+        Some(place) => Found::At(place),
+        None => Found::Nothing,
     }
-    true
 }
 
-// The first of some places that has a name, if one has it.
-pub(crate) fn place_of(names: [Name; State::PLACES], count: usize, name: Name) -> Found
-    requires { count ≤ named.place_limit }
-    ensures { result ≡ named.place_of names count name }
+// No place before one has its name.
+fn is_new(kept: &[Kept], place: usize) -> bool
+    requires { place < length kept.now }
+    ensures { result ≡ every place (λ k. not (named.same_name (name_at kept.now k) (name_at kept.now place))) }
 {
-    let mut k = 0;
-    loop {
-        if count <= k {
-            break Found::Nothing;
-        }
-        let held = names[k];
-        if same(held, name) {
-            break Found::At(k);
-        }
-        k += 1;
-    }
+    matches!(place_of(&kept[..place], kept[place].name), Found::Nothing)
 }
 
 // No two of some places have the same name.
-pub(crate) fn distinct(names: [Name; State::PLACES], count: usize) -> bool
-    requires { count ≤ named.place_limit }
-    ensures { result ≡ named.distinct names count }
+pub(crate) fn distinct(kept: &[Kept]) -> bool
+    ensures { result ≡ named.distinct (name_at kept.now) (length kept.now) }
 {
-    let mut k = 0;
-    while k < count {
-        let held = names[k];
-        if let Found::At(_) = place_of(names, k, held) {
-            return false;
-        }
-        k += 1;
-    }
-    true
+    (0..kept.len()).all(|place| is_new(kept, place))
 }

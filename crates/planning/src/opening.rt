@@ -9,11 +9,9 @@ pub fn open_book(s: &[u8]) -> Opened
     ensures { result ≡ replies.opened_state s.now }
 {
     let o = book::read_book(s);
-    let answer = o.answer;
-    let balance = o.balance;
     Opened {
-        answer,
+        answer: o.answer,
         place: o.place,
-        state: State::nothing_kept(balance),
+        state: State::nothing_kept(o.balance),
     }
 }

@@ -1,28 +1,24 @@
--- `planning::distinct` meets its contract. The loop's invariant: no two of the first k places have the same name. Assumes nothing.
-use mathlib.Core.Path.{sym}
+-- `planning::distinct` meets its contract. Assumes nothing.
+use Prim.Native.Nat.{ℕ}
+use mathlib.Core.Path.{refl, ◌∙◌}
+use mathlib.Core.Bool.{Bool, not}
 use native.Mathlib.Omega.{arith}
-use borrow.Author.Count.{below_none, below_more}
-use Rattle.laws.proofs.Every.{each_every, every_fails}
-use Rattle.planning.specs.Names.{name_at, distinct}
-use Rattle.planning.proofs.Naming.{none_before, some_before}
+use lib.ListN.{length}
+use borrow.Author.Tests.{tests}
+use Rattle.std.proofs.Common.{rules}
+use Rattle.std.proofs.lemmas.Iterator.{YieldsList-from_range}
+use Rattle.std.proofs.lemmas.Iterator.Search.{all_from_yields_List}
+use Rattle.laws.specs.Sum.{every}
+use Rattle.planning.specs.Names.{same_name, distinct}
+use Rattle.planning.specs.State.{name_at}
+use Rattle.planning.proofs.Places.{below_every}
 use Rattle.planning.proofs.names.distinct.Goals as goal
-
-pub loop-k-init : goal.loop-k-init
-loop-k-init c = (omega arith, below_none _)
-
-pub returns-in-At : goal.returns-in-At
-unfolding distinct
-returns-in-At c = let names = c.args.names in
-    sym (every_fails _ _ _ c.loop-k-test.true
-    (some_before names _ _ (name_at names _) (sym c.in-At.ensures)))
-
-pub loop-k-preserved : goal.loop-k-preserved
-loop-k-preserved c = let names = c.args.names in (
-  omega arith,
-  below_more _ _ c.loop-k.invariant.1
-      (none_before names _ (name_at names _) (sym c.in_default.ensures)),
-)
 
 pub returns : goal.returns
 unfolding distinct
-returns c = sym (each_every _ _ (λ j h. c.loop-k.invariant.1 j (omega arith)))
+returns c =
+    let names = name_at c.args.kept.now in
+    let n = length c.args.kept.now in
+    let test : ℕ → Bool = λ place. every place (λ k. not (same_name (names k) (names place))) in
+    all_from_yields_List test _ _ _ c.all.ensures.ran (YieldsList-from_range 0 n n refl (omega arith)) (λ x b q k. search (rules, tests))
+    ∙ below_every test n

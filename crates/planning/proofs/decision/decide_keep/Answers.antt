@@ -1,0 +1,20 @@
+-- `planning::decide_keep` meets its contract. Assumes nothing.
+use mathlib.Core.Path.{◌≡◌, sym, ◌∙◌}
+use native.Mathlib.Omega.{arith}
+use Rattle.planning.specs.Calls.{place_in}
+use Rattle.planning.proofs.Places.{place_taken}
+use Rattle.planning.proofs.Deciding.{keep_found, keep_free}
+use Rattle.planning.proofs.decision.decide_keep.Goals as goal
+use Rattle.planning.proofs.decision.decide_keep.Goals.{After-place_of}
+
+-- The name is sought in the places in use.
+sought : (c : After-place_of) → c.place_of.result ≡ place_in c.args.s.now c.args.name
+sought c =
+    let few = c.requires c.if-not-sound.false in
+    c.place_of.ensures ∙ place_taken c.args.s.now.kept c.args.s.now.count (omega arith) c.args.name
+
+pub returns-in-At : goal.returns-in-At
+returns-in-At c = keep_found _ _ _ _ c.if-not-sound.false (sym (sought (goal.at.returns-in-At c).After-place_of) ∙ c.in-At.is)
+
+pub returns-in-Nothing : goal.returns-in-Nothing
+returns-in-Nothing c = keep_free _ _ _ c.if-not-sound.false (sym (sought (goal.at.returns-in-Nothing c).After-place_of) ∙ c.in-Nothing.is) c.if-s-lt-PLACES.true
