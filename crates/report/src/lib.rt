@@ -4,7 +4,7 @@
 
 ghost use Rattle.std.specs.Prelude.{◌+◌, ◌≤◌, [], length};
 ghost use Rattle.text.specs.Text.{Written};
-ghost use Rattle.report.specs.Lines.{unit_line, aquifer_line, refused_line, call_line, call_given, call_refused, call_cancelled, call_kept, call_back};
+ghost use Rattle.report.specs.Lines.{unit_line, aquifer_line, refused_line, outcome_line, call_given, call_refused, call_cancelled, call_kept, call_back};
 
 // The size of the buffer: room for 16,384 call lines, as many as a book of 65,536 bytes can have calls, and for the table.
 pub const ROOM: usize = 1064960;
@@ -70,61 +70,63 @@ pub fn refused_line(out: &mut [u8; ROOM], at: usize, number: u64, place: u64) ->
 }
 
 // `call K given N`: the call's place among the calls and the number of the title.
+#[tactic(auto, unfolding(crate::specs::Lines::call_given))]
 pub fn call_given(out: &mut [u8; ROOM], at: usize, k: u64, n: u64) -> usize
     requires { at + 64 ≤ 1064960 }
     ensures { Written 64 out.old at (call_given k n) out.new result }
 {
-    call_line(out, at, k, b"given", n)
+    call_line(out, at, k, b"given", Some(n))
 }
 
 // `call K refused N`: the call's place among the calls and the refusal's number.
+#[tactic(auto, unfolding(crate::specs::Lines::call_refused))]
 pub fn call_refused(out: &mut [u8; ROOM], at: usize, k: u64, n: u64) -> usize
     requires { at + 64 ≤ 1064960 }
     ensures { Written 64 out.old at (call_refused k n) out.new result }
 {
-    call_line(out, at, k, b"refused", n)
+    call_line(out, at, k, b"refused", Some(n))
 }
 
 // `call K cancelled N`: the call's place among the calls and the number of the title cancelled.
+#[tactic(auto, unfolding(crate::specs::Lines::call_cancelled))]
 pub fn call_cancelled(out: &mut [u8; ROOM], at: usize, k: u64, n: u64) -> usize
     requires { at + 64 ≤ 1064960 }
     ensures { Written 64 out.old at (call_cancelled k n) out.new result }
 {
-    call_line(out, at, k, b"cancelled", n)
+    call_line(out, at, k, b"cancelled", Some(n))
 }
 
 // `call K kept`: the call's place among the calls.
+#[tactic(auto, unfolding(crate::specs::Lines::call_kept))]
 pub fn call_kept(out: &mut [u8; ROOM], at: usize, k: u64) -> usize
     requires { at + 64 ≤ 1064960 }
     ensures { Written 64 out.old at (call_kept k) out.new result }
 {
-    let a = text::word(out, at, b"call");
-    let b = text::number(out, a, k);
-    let c = text::word(out, b, b" kept");
-    text::byte(out, c, b'\n')
+    call_line(out, at, k, b"kept", None)
 }
 
 // `call K back`: the call's place among the calls.
+#[tactic(auto, unfolding(crate::specs::Lines::call_back))]
 pub fn call_back(out: &mut [u8; ROOM], at: usize, k: u64) -> usize
     requires { at + 64 ≤ 1064960 }
     ensures { Written 64 out.old at (call_back k) out.new result }
 {
-    let a = text::word(out, at, b"call");
-    let b = text::number(out, a, k);
-    let c = text::word(out, b, b" back");
-    text::byte(out, c, b'\n')
+    call_line(out, at, k, b"back", None)
 }
 
-// `call K W N`: the call's place among the calls, the word for its outcome, and a number.
-fn call_line(out: &mut [u8; ROOM], at: usize, k: u64, outcome: &[u8], n: u64) -> usize
+// `call K W` or `call K W N`: the call's place among the calls, the word for its outcome, and a number where there is one.
+fn call_line(out: &mut [u8; ROOM], at: usize, k: u64, outcome: &[u8], n: Option<u64>) -> usize
     requires outcome_len_bound { length outcome.now ≤ 16 }
     requires at_bound { at + 64 ≤ 1064960 }
-    ensures { Written 64 out.old at (call_line k outcome.now n) out.new result }
+    ensures { Written 64 out.old at (outcome_line k outcome.now n) out.new result }
 {
     let a = text::word(out, at, b"call");
     let b = text::number(out, a, k);
     let c = text::byte(out, b, b' ');
     let d = text::word(out, c, outcome);
-    let e = text::number(out, d, n);
+    let e = match n {
+        Some(n) => text::number(out, d, n),
+        None => d,
+    };
     text::byte(out, e, b'\n')
 }

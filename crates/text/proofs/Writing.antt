@@ -6,6 +6,8 @@ use native.Mathlib.Nat.{add_assoc, le_refl}
 use native.Mathlib.Numerals.{add-one}
 use native.Mathlib.Omega.{arith}
 use lib.ListN.{length, take, drop, set, length-append}
+use borrow.Rule.Slice.PartMut.{put_mid}
+use Rattle.std.proofs.lemmas.Slice.{put_mid-paste}
 use lib.Seq.{paste, paste-zero, take-length, length-take-le, length-paste, take-paste, drop-paste, drop-drop, set_split, append_snoc}
 use Rattle.text.specs.Text.{written, Written}
 
@@ -98,12 +100,12 @@ byte_stored old at b h = record {
   place = refl;
 }
 
--- all bytes of a text copied
-pub all_copied : (old : List ℕ) (at : ℕ) (text : List ℕ) {new : List ℕ} {next : ℕ} → at + length text ≤ length old
-    → new ≡ paste old at text (length text) → next ≡ at + length text → Written (length text) old at text new next
-all_copied old at text h b p = record {
+-- all bytes of a text copied over a part of its length
+pub word_stored : (old : List ℕ) (at n : ℕ) (text part : List ℕ) → at + length text ≤ length old → n ≡ length text → part ≡ text
+    → Written (length text) old at text (put_mid at n old part) (at + length text)
+word_stored old at n text part h k e = record {
   short = le_refl _;
   fits = h;
-  buffer = b ∙ sym (written_paste old at text);
-  place = p;
+  buffer = put_mid-paste at n old part text (length text) e (omega arith) refl ∙ sym (written_paste old at text);
+  place = refl;
 }
