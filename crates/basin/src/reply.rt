@@ -8,7 +8,7 @@ ghost use Rattle.basin.specs.Figures as replies;
 use crate::Figures;
 use crate::test::tested;
 use figures::{AquiferFigures, UnitFigures};
-use model::{Answer, Balance};
+use model::{Balance, Refusal};
 
 // 0 in every place for units.
 fn no_units() -> [UnitFigures; Balance::UNITS]
@@ -44,7 +44,7 @@ pub fn figures(b: Balance) -> Figures
     let mut arrived = [0u64; Balance::UNITS];
     if !tested(b, &mut gained, &mut lost, &mut before, &mut arrived) {
         return Figures {
-            answer: Answer::Refused(0),
+            answer: Err(Refusal::Unsound),
             units: no_units(),
             aquifers: no_aquifers(),
         };
@@ -54,7 +54,7 @@ pub fn figures(b: Balance) -> Figures
     let units = b.units;
     let aquifers = b.aquifers;
     Figures {
-        answer: Answer::Accepted,
+        answer: Ok(()),
         units: figures::unit_figures(units, n, &gained, &lost, &before, &arrived),
         aquifers: figures::aquifer_figures(aquifers, m),
     }

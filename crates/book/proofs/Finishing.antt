@@ -1,4 +1,5 @@
 -- The end of a description, from the balance under construction, is the end that the definition gives. Assumes nothing.
+use Rattle.std.specs.Prelude.{Option, Some, None}
 use Prim.Native.Nat.{ℕ, suc, ◌≤◌, ◌<◌}
 use mathlib.Core.Path.{◌≡◌, refl, sym, ap, ◌∙◌, subst⁻¹}
 use mathlib.Core.Logic.{◌⊎◌}
@@ -12,8 +13,6 @@ use Rattle.laws.proofs.Cases.{by_eq}
 use Rattle.laws.proofs.Arrays.{get_or_table}
 use Rattle.model.specs.declared.Unit.{Unit}
 use Rattle.model.specs.declared.Balance.{Balance}
-use Rattle.model.specs.declared.Found.{Found}
-use Rattle.model.specs.declared.Found.TheVariants.{At, Nothing}
 use Rattle.model.specs.Answers.{first}
 use Rattle.model.specs.Fresh.{empty_unit, empty_aquifer}
 use Rattle.model.specs.View.{view_of}
@@ -37,9 +36,9 @@ module _ (d : Description) (good : Good d) where
   well_at k h = get_or_table 32 empty_aquifer (length d.aquifers) (λ k. get_or d.aquifers k empty_aquifer) k h (omega (arith, good.many))
 
 -- A refusal at a unit's number, as an opening.
-opened_fault : (n : ℕ) (f : Found) (o : Outcome) → opened_as (fault_at n f o) ≡ unless_at n f (opened_as o)
-opened_fault n (At j) o = refl
-opened_fault n Nothing o = refl
+opened_fault : (n : ℕ) (f : Option ℕ) (o : Outcome) → opened_as (fault_at n f o) ≡ unless_at n f (opened_as o)
+opened_fault n (Some j) o = refl
+opened_fault n None o = refl
 
 tested_is : (d : Description) (at : ℕ) → Good d
     → tested_with (balance_of d) at

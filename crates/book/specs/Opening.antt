@@ -1,13 +1,10 @@
 -- The balance while a description is being read. Assumes nothing.
-use Rattle.std.specs.Prelude.{ℕ, suc, ◌-◌, ◌≤◌, ◌<◌, ◌≡◌, cond, not, ◌⊎◌, eqb, ltb, length, get_or, set, replicate}
+use Rattle.std.specs.Prelude.{ℕ, suc, ◌-◌, ◌≤◌, ◌<◌, ◌≡◌, cond, not, ◌⊎◌, eqb, ltb, length, get_or, set, replicate, Option, Some, None, Ok, Err}
 use Rattle.std.specs.Int.Signed.{non_neg}
 use Rattle.laws.specs.Table.{table}
 use Rattle.model.specs.declared.Unit.{Unit}
 use Rattle.model.specs.declared.Aquifer.{Aquifer}
 use Rattle.model.specs.declared.Balance.{Balance}
-use Rattle.model.specs.declared.Answer.TheVariants.{Accepted, Refused}
-use Rattle.model.specs.declared.Found.{Found}
-use Rattle.model.specs.declared.Found.TheVariants.{At, Nothing}
 use Rattle.model.specs.Fresh.{empty_unit, empty_aquifer, empty_place, fresh_balance}
 use Rattle.model.specs.View.{View, view_of}
 use Rattle.model.specs.Answers.{first}
@@ -77,22 +74,22 @@ draft d =
 
 -- A refused opening: the number, its place and the fresh balance.
 abbrev pub refused_with : ℕ → ℕ → Opened
-refused_with n p = record { answer = Refused n; place = p; balance = fresh_balance }
+refused_with n p = record { answer = Err n; place = p; balance = fresh_balance }
 
-abbrev pub unless_at : ℕ → Found → Opened → Opened
-unless_at n (At j) rest = refused_with n (suc j)
-unless_at n Nothing rest = rest
+abbrev pub unless_at : ℕ → Option ℕ → Opened → Opened
+unless_at n (Some j) rest = refused_with n (suc j)
+unless_at n None rest = rest
 
 -- The end of a description, from the balance under construction: closing, 8, 10, or accepted.
-abbrev pub missing : View → Found
+abbrev pub missing : View → Option ℕ
 missing v = first v.units (λ j. ltb v.units (downstream v j))
 
-abbrev pub negative : View → Found
+abbrev pub negative : View → Option ℕ
 negative v = first v.units (λ j. not (non_neg (flow v j)))
 
 abbrev pub tested_with : Balance → ℕ → Opened
 tested_with b at =
-    unless_at 8 (missing (view_of b)) (unless_at 10 (negative (view_of b)) (record { answer = Accepted; place = at; balance = b }))
+    unless_at 8 (missing (view_of b)) (unless_at 10 (negative (view_of b)) (record { answer = Ok tt; place = at; balance = b }))
 
 abbrev pub ended_with : Balance → UnitRecord → ℕ → ℕ → ℕ → Opened
 ended_with b u n m at =

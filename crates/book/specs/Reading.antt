@@ -1,16 +1,14 @@
 -- Reading a description, record by record, and opening it (document 01, "What each operation refuses"; document 02 [1]). Assumes nothing.
-use Rattle.std.specs.Prelude.{ℕ, zero, suc, ◌+◌, ◌-◌, cond, not, List, [], ◌∷◌, ◌++◌, eqb, ltb, length, get_or, set, replicate}
+use Rattle.std.specs.Prelude.{ℕ, zero, suc, ◌+◌, ◌-◌, cond, not, List, [], ◌∷◌, ◌++◌, eqb, ltb, length, get_or, set, replicate, Option, Some, None, Ok, Err}
 use Rattle.std.specs.Int.Signed.{non_neg}
 use Rattle.laws.specs.Table.{table}
 use Rattle.model.specs.declared.Unit.{Unit}
 use Rattle.model.specs.declared.Aquifer.{Aquifer}
 use Rattle.model.specs.declared.Balance.{Balance}
-use Rattle.model.specs.declared.Found.{Found}
-use Rattle.model.specs.declared.Found.TheVariants.{At, Nothing}
 use Rattle.model.specs.Fresh.{empty_unit, empty_aquifer, empty_place, fresh_balance}
 use Rattle.model.specs.View.{view_of}
 use Rattle.model.specs.Limits.{unit_limit, aquifer_limit, title_limit}
-use Rattle.model.specs.Answers.{none, number, answered, first}
+use Rattle.model.specs.Answers.{first}
 use Rattle.river.specs.Flow.{flow}
 use Rattle.record.specs.declared.UnitRecord.{UnitRecord}
 use Rattle.record.specs.Described.{DescribedUnit, add_plot, add_year, no_unit, summed, unit_of}
@@ -52,15 +50,15 @@ pub data Outcome : Type 0 where
   refused : ℕ → ℕ → Outcome
 
 -- A unit at fault in place of the offset: its number is one more than its index.
-abbrev pub fault_at : ℕ → Found → Outcome → Outcome
-fault_at n (At j) rest = refused n (suc j)
-fault_at n Nothing rest = rest
+abbrev pub fault_at : ℕ → Option ℕ → Outcome → Outcome
+fault_at n (Some j) rest = refused n (suc j)
+fault_at n None rest = rest
 
 -- The lowest-numbered unit whose downstream number is above the last unit, and the one whose flow is negative in a balance.
-abbrev pub missing : Description → Found
+abbrev pub missing : Description → Option ℕ
 missing d = first (length d.units) (λ j. ltb (length d.units) (get_or d.units j no_unit).downstream)
 
-abbrev pub negative : Balance → Description → Found
+abbrev pub negative : Balance → Description → Option ℕ
 negative b d = first (length d.units) (λ j. not (non_neg (flow (view_of b) j)))
 
 -- At the end, after closing: 8 downstream above the last unit, then 10 flow negative in this balance.
@@ -126,8 +124,8 @@ reading s = reading_from (length s + 1) s 0 (record { units = []; aquifers = [] 
 
 -- Opening a book: the balance and the offset where the description ends, or, refused, a number, its place and the fresh balance.
 abbrev pub opened_by : (Description → Balance) → Outcome → Opened
-opened_by balance (read d at) = record { answer = answered none; place = at; balance = balance d }
-opened_by balance (refused n p) = record { answer = answered (number n); place = p; balance = fresh_balance }
+opened_by balance (read d at) = record { answer = Ok tt; place = at; balance = balance d }
+opened_by balance (refused n p) = record { answer = (Err n); place = p; balance = fresh_balance }
 
 abbrev pub opened_as : Outcome → Opened
 opened_as o = opened_by balance_of o

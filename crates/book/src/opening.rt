@@ -9,7 +9,7 @@ ghost use Rattle.book.specs.Opening as opening;
 
 use crate::step::next;
 use crate::{Next, Opened};
-use model::{Answer, Balance, Found};
+use model::{Answer, Balance};
 use record::{UnitRecord, closing_fault, unit_of};
 
 // A refused opening hands back the fresh balance.
@@ -39,7 +39,7 @@ fn stored(mut b: Balance, u: UnitRecord, n: usize) -> Balance
 }
 
 // The lowest-numbered unit whose downstream number is above the last unit's, if there is one.
-fn first_missing(b: Balance) -> Found
+fn first_missing(b: Balance) -> Option<usize>
     requires { (view_of b).units ≤ unit_limit }
     ensures { result ≡ opening.missing (view_of b) }
 {
@@ -47,12 +47,12 @@ fn first_missing(b: Balance) -> Found
     let mut i = 0;
     loop {
         if n <= i {
-            break Found::Nothing;
+            break None;
         }
         let u = b.units[i];
         let d = u.downstream as usize;
         if n < d {
-            break Found::At(i);
+            break Some(i);
         }
         i += 1;
     }
@@ -73,12 +73,12 @@ fn tested(b: Balance, at: usize) -> Opened
     ensures { result ≡ opening.tested_with b at }
 {
     let missing = first_missing(b);
-    if let Found::At(j) = missing {
+    if let Some(j) = missing {
         return refused(8, j + 1);
     }
     let units = b.units;
     let negative = river::first_negative(units, b.unit_count);
-    if let Found::At(j) = negative {
+    if let Some(j) = negative {
         return refused(10, j + 1);
     }
     Opened {

@@ -1,4 +1,5 @@
 -- Names: when two are the same, and which are kept. Assumes nothing.
+use Rattle.std.specs.Prelude.{Some, None}
 use Prim.Native.Nat.{ℕ, ◌<◌}
 use mathlib.Core.Path.{◌≡◌, refl, sym, ap, subst, ◌∙◌}
 use mathlib.Core.Logic.{◌↔◌}
@@ -11,7 +12,6 @@ use native.Mathlib.Omega.{arith}
 use borrow.Author.Tests.{eq-eqb, eqb-true}
 use Rattle.laws.specs.Sum.{every}
 use Rattle.laws.proofs.Every.{every_each, each_every, every_fails}
-use Rattle.model.specs.declared.Found.TheVariants.{At, Nothing}
 use Rattle.river.proofs.Firsts.{nothing_passed, at_first}
 use Rattle.planning.specs.declared.Name.{Name}
 use Rattle.planning.specs.Names.{name_length, same_name, name_at, place_of}
@@ -43,10 +43,10 @@ same_exactly a b p q = (
 )
 
 -- No place before one has a name exactly where the search of the name among them finds nothing.
-pub none_before : (names : List Name) (k : ℕ) (n : Name) → place_of names k n ≡ Nothing
+pub none_before : (names : List Name) (k : ℕ) (n : Name) → place_of names k n ≡ None
     → every k (λ j. not (same_name (name_at names j) n)) ≡ true
 none_before names k n e = each_every _ k (λ j h. ap not (nothing_passed _ k e j h))
 
-pub some_before : (names : List Name) (k i : ℕ) (n : Name) → place_of names k n ≡ At i
+pub some_before : (names : List Name) (k i : ℕ) (n : Name) → place_of names k n ≡ Some i
     → every k (λ j. not (same_name (name_at names j) n)) ≡ false
 some_before names k i n e = let f = at_first _ k i e in every_fails _ k i f.0 (ap not f.2)

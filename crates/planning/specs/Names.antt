@@ -1,8 +1,6 @@
 -- Names of eight bytes, and the places that hold them (document 02 [3]). Assumes nothing.
-use Rattle.std.specs.Prelude.{ℕ, Bool, true, false, not, List, [], eqb, get_or}
+use Rattle.std.specs.Prelude.{ℕ, Bool, true, false, not, List, [], eqb, get_or, Option, Some, None}
 use Rattle.laws.specs.Sum.{every}
-use Rattle.model.specs.declared.Found.{Found}
-use Rattle.model.specs.declared.Found.TheVariants.{At, Nothing}
 use Rattle.model.specs.Answers.{first}
 use Rattle.planning.specs.declared.Name.{Name}
 
@@ -22,13 +20,13 @@ abbrev pub name_at : List Name → ℕ → Name
 name_at names k = get_or names k (record { bytes = [] })
 
 -- The first of n places that has a name.
-abbrev pub place_of : List Name → ℕ → Name → Found
+abbrev pub place_of : List Name → ℕ → Name → Option ℕ
 place_of names n name = first n (λ k. same_name (name_at names k) name)
 
 -- There is such a place.
-abbrev pub is_found : Found → Bool
-is_found (At k) = true
-is_found Nothing = false
+abbrev pub is_found : Option ℕ → Bool
+is_found (Some k) = true
+is_found None = false
 
 -- No two of n places have the same name.
 unfoldable pub distinct : List Name → ℕ → Bool

@@ -6,7 +6,7 @@ ghost use Rattle.planning.specs.Calls as replies;
 use crate::names::place_of;
 use crate::test::sound;
 use crate::{Name, Reply, State};
-use model::{Answer, Found};
+use model::{Answer};
 
 // A refused call hands back the old state.
 fn refused(s: State, code: u8) -> Reply
@@ -29,7 +29,7 @@ pub fn keep(mut s: State, name: Name) -> Reply
     let names = s.names;
     let count = s.count;
     let balance = s.balance;
-    if let Found::At(k) = place_of(names, count, name) {
+    if let Some(k) = place_of(names, count, name) {
         s.kept[k] = balance;
         return Reply {
             answer: Answer::Accepted,
@@ -59,8 +59,8 @@ pub fn back(mut s: State, name: Name) -> Reply
     }
     let names = s.names;
     match place_of(names, s.count, name) {
-        Found::Nothing => refused(s, 23),
-        Found::At(k) => {
+        None => refused(s, 23),
+        Some(k) => {
             let balance = s.kept[k];
             s.balance = balance;
             Reply {

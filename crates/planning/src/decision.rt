@@ -6,7 +6,7 @@ ghost use Rattle.planning.specs.Decision as decisions;
 
 use crate::names::place_of;
 use crate::{Keeping, Name, Returning, State};
-use model::{Balance, Found};
+use model::{Balance};
 
 // Two arrays have their four places.
 fn lengths(names: [Name; State::PLACES], kept: [Balance; State::PLACES])
@@ -31,7 +31,7 @@ pub fn decide_keep(names: [Name; State::PLACES], count: usize, sound: bool, name
     if !sound {
         return Keeping::Refused { code: 0 };
     }
-    if let Found::At(place) = place_of(names, count, name) {
+    if let Some(place) = place_of(names, count, name) {
         return Keeping::Again { place };
     }
     if State::PLACES <= count {
@@ -49,7 +49,7 @@ pub fn decide_back(names: [Name; State::PLACES], count: usize, sound: bool, name
         return Returning::Refused { code: 0 };
     }
     match place_of(names, count, name) {
-        Found::At(place) => Returning::To { place },
-        Found::Nothing => Returning::Refused { code: 23 },
+        Some(place) => Returning::To { place },
+        None => Returning::Refused { code: 23 },
     }
 }

@@ -3,7 +3,6 @@ ghost use Rattle.std.specs.Prelude.{◌≡◌, ◌≤◌};
 ghost use Rattle.planning.specs.Names as named;
 
 use crate::{Name, State};
-use model::Found;
 
 // Two names have the same eight bytes.
 fn same(a: Name, b: Name) -> bool
@@ -20,18 +19,18 @@ fn same(a: Name, b: Name) -> bool
 }
 
 // The first of some places that has a name, if one has it.
-pub(crate) fn place_of(names: [Name; State::PLACES], count: usize, name: Name) -> Found
+pub(crate) fn place_of(names: [Name; State::PLACES], count: usize, name: Name) -> Option<usize>
     requires { count ≤ named.place_limit }
     ensures { result ≡ named.place_of names count name }
 {
     let mut k = 0;
     loop {
         if count <= k {
-            break Found::Nothing;
+            break None;
         }
         let held = names[k];
         if same(held, name) {
-            break Found::At(k);
+            break Some(k);
         }
         k += 1;
     }
@@ -45,7 +44,7 @@ pub(crate) fn distinct(names: [Name; State::PLACES], count: usize) -> bool
     let mut k = 0;
     while k < count {
         let held = names[k];
-        if let Found::At(_) = place_of(names, k, held) {
+        if let Some(_) = place_of(names, k, held) {
             return false;
         }
         k += 1;

@@ -1,4 +1,5 @@
 -- What the early refusals leave: a title that can be put in, with entries that stay within the limit. Assumes nothing.
+use Rattle.std.specs.Prelude.{Ok, Err}
 use Prim.Native.Nat.{ℕ, suc, pred, ◌+◌, ◌≤◌, ◌<◌}
 use mathlib.Core.Path.{◌≡◌, refl, ap, subst}
 use mathlib.Core.Bool.{Bool, true, false, cond, not, ◌&&◌}
@@ -7,11 +8,12 @@ use native.Mathlib.Omega.{arith}
 use borrow.Author.Tests.{ltb-false, leb-false, eq-eqb, ne_eqb}
 use Rattle.laws.proofs.Cases.{by_eq}
 use Rattle.laws.proofs.Every.{both, neither}
+use Rattle.model.specs.declared.Refusal.TheVariants.{NoSuchPlace, NoSuchUse, BadVolume, NumbersGiven, EntryFull, NoWater, ReceiverBelow}
 use Rattle.model.specs.declared.Title.{Title}
 use Rattle.model.specs.declared.Title.TheVariants.{UnitWithdrawal, AquiferWithdrawal, UnitTransfer, AquiferTransfer, ReturningWithdrawal}
 use Rattle.model.specs.View.{View}
 use Rattle.model.specs.Limits.{term_limit}
-use Rattle.model.specs.Answers.{Refusal, none, number, refuse}
+use Rattle.model.specs.Answers.{Answer, refuse}
 use Rattle.titles.specs.Posting.{Posting, nothing, post, posts, postings}
 use Rattle.titles.specs.Adds.{return_of}
 use Rattle.river.specs.Flow.{Ready}
@@ -24,30 +26,30 @@ use Rattle.refusal.specs.Grant.{overfills, overfull, downstream_transfer, no_wat
 use Rattle.refusal.specs.Steps.{volume_number, early_number}
 
 -- The early refusals and the grant's: under its number, or what follows.
-abbrev pub judged : ℕ → Refusal → Refusal
-judged n w = cond (eqb n 0) w (number n)
+abbrev pub judged : ℕ → Answer → Answer
+judged n w = cond (eqb n 0) w (Err n)
 
-volume_judged : (c d e : Bool) (w : Refusal)
-    → refuse 14 (not c) (refuse 15 d (refuse 16 e w)) ≡ judged (cond c (cond d 15 (cond e 16 0)) 14) w
+volume_judged : (c d e : Bool) (w : Answer)
+    → refuse BadVolume (not c) (refuse NumbersGiven d (refuse EntryFull e w)) ≡ judged (cond c (cond d 15 (cond e 16 0)) 14) w
 volume_judged true true e w = refl
 volume_judged true false true w = refl
 volume_judged true false false w = refl
 volume_judged false d e w = refl
 
-one_judged : (a : Bool) (n : ℕ) (r w : Refusal) → r ≡ judged n w → refuse 12 (not a) r ≡ judged (cond a n 12) w
+one_judged : (a : Bool) (n : ℕ) (r w : Answer) → r ≡ judged n w → refuse NoSuchPlace (not a) r ≡ judged (cond a n 12) w
 one_judged true n r w e = e
 one_judged false n r w e = refl
 
-use_judged : (b : Bool) (n : ℕ) (r w : Refusal) → r ≡ judged n w → refuse 13 (not b) r ≡ judged (cond b n 13) w
+use_judged : (b : Bool) (n : ℕ) (r w : Answer) → r ≡ judged n w → refuse NoSuchUse (not b) r ≡ judged (cond b n 13) w
 use_judged true n r w e = e
 use_judged false n r w e = refl
 
-way_judged : (b : Bool) (n : ℕ) (r w : Refusal) → r ≡ judged n w → refuse 18 b r ≡ judged (cond b 18 n) w
+way_judged : (b : Bool) (n : ℕ) (r w : Answer) → r ≡ judged n w → refuse ReceiverBelow b r ≡ judged (cond b 18 n) w
 way_judged true n r w e = refl
 way_judged false n r w e = e
 
 -- A grant is refused under its early number, or with 17 if there is no water with the title in.
-pub grant_judged : (v : View) (t : Title) → grant_refusal v t ≡ judged (early_number v t) (refuse 17 (no_water (granted v t) t) none)
+pub grant_judged : (v : View) (t : Title) → grant_refusal v t ≡ judged (early_number v t) (refuse NoWater (no_water (granted v t) t) (Ok tt))
 grant_judged v (UnitWithdrawal u r x) =
     one_judged (exists v.units u) _ _ _ (use_judged (exists 7 r) _ _ _ (volume_judged (is_volume x) (leb 256 v.given) (overfull v (UnitWithdrawal u r x)) _))
 grant_judged v (AquiferWithdrawal a x) =

@@ -10,7 +10,7 @@ ghost use Rattle.register.specs.Cancel as cancels;
 ghost use Rattle.register.specs.Calls as calls;
 
 use crate::outcome::sized;
-use model::{Answer, Balance, Call, Found, Title, Unit};
+use model::{Answer, Balance, Call, Title, Unit};
 
 // The answer to a grant on a sound balance: 12 to 16 and 18, then 17 with the title in.
 fn grant_answer(b: Balance, t: Title) -> Answer
@@ -41,8 +41,8 @@ fn needed(units: [Unit; Balance::UNITS], n: usize, t: Title) -> bool
 {
     let less = effect::lowered_units(units, t);
     match river::first_negative(less, n) {
-        Found::Nothing => false,
-        Found::At(_) => true,
+        None => false,
+        Some(_) => true,
     }
 }
 

@@ -7,29 +7,29 @@ use Rattle.book.proofs.Ending.{ready_of, missing_below, negative_below, tested_m
 use Rattle.book.proofs.opening.tested.Goals as goal
 
 pub overflow_add-j : goal.overflow_add-j
-overflow_add-j c = omega (arith, missing_below (view_of c.args.b) _ (sym c.in-At.ensures), c.requires.few)
+overflow_add-j c = omega (arith, missing_below (view_of c.args.b) _ (sym c.in-Some.ensures), c.requires.few)
 
-pub returns-in-At : goal.returns-in-At
-returns-in-At c = c.refused.ensures ∙ tested_missing c.args.b c.args.at _ (sym c.in-At.ensures)
+pub returns-in-Some : goal.returns-in-Some
+returns-in-Some c = c.refused.ensures ∙ tested_missing c.args.b c.args.at _ (sym c.in-Some.ensures)
 
 pub first_negative-negative-requires : goal.first_negative-negative-requires
 first_negative-negative-requires c =
     ready_alone _ (ready_of _ c.requires (sym c.in_default.ensures))
 
-pub overflow_add-j-in-At-negative : goal.overflow_add-j-in-At-negative
-overflow_add-j-in-At-negative c =
+pub overflow_add-j-in-Some-negative : goal.overflow_add-j-in-Some-negative
+overflow_add-j-in-Some-negative c =
     let v = view_of c.args.b in
     omega (
       arith,
-      negative_below v _ (sym (negative_alone v) ∙ sym c.in-At-negative.ensures),
+      negative_below v _ (sym (negative_alone v) ∙ sym c.in-Some-negative.ensures),
       c.requires.few,
     )
 
-pub returns-in-At-negative : goal.returns-in-At-negative
-returns-in-At-negative c =
-    c.refused-in-At-negative.ensures
+pub returns-in-Some-negative : goal.returns-in-Some-negative
+returns-in-Some-negative c =
+    c.refused-in-Some-negative.ensures
     ∙ tested_negative c.args.b c.args.at _ (sym c.in_default.ensures)
-    (sym (negative_alone (view_of c.args.b)) ∙ sym c.in-At-negative.ensures)
+    (sym (negative_alone (view_of c.args.b)) ∙ sym c.in-Some-negative.ensures)
 
 pub returns : goal.returns
 returns c =

@@ -6,19 +6,19 @@ use native.Mathlib.Omega.{arith}
 use Rattle.planning.specs.State.{sound_state}
 use Rattle.planning.proofs.Replying.{standing, keep_faulty, keep_again, keep_fifth, keep_new, place_within}
 use Rattle.planning.proofs.calls.keep.Goals as goal
-use Rattle.planning.proofs.calls.keep.Goals.{Else-not-sound, In-At}
+use Rattle.planning.proofs.calls.keep.Goals.{Else-not-sound, In-Some}
 
 -- Past the test the state is sound.
 tested : (c : Else-not-sound) → sound_state c.args.s ≡ true
 tested c = sym c.sound.ensures ∙ c.if-not-sound.false
 
 -- The place of a name that is found.
-within : (c : In-At) → c.in-At.k < 4
+within : (c : In-Some) → c.in-Some.k < 4
 within c =
     omega (
       arith,
-      (standing _ (tested (goal.at.In-At c).Else-not-sound)).few,
-      place_within c.args.s c.args.name _ (sym c.in-At.ensures),
+      (standing _ (tested (goal.at.In-Some c).Else-not-sound)).few,
+      place_within c.args.s c.args.name _ (sym c.in-Some.ensures),
     )
 
 pub returns-then-not-sound : goal.returns-then-not-sound
@@ -33,8 +33,8 @@ offset_bounds-s-k c = omega (arith, within c)
 pub bounds-s-k : goal.bounds-s-k
 bounds-s-k c = within c
 
-pub returns-in-At : goal.returns-in-At
-returns-in-At c = sym (keep_again c.args.s c.args.name (tested (goal.at.returns-in-At c).Else-not-sound) _ (sym c.in-At.ensures))
+pub returns-in-Some : goal.returns-in-Some
+returns-in-Some c = sym (keep_again c.args.s c.args.name (tested (goal.at.returns-in-Some c).Else-not-sound) _ (sym c.in-Some.ensures))
 
 pub returns-then-count-ge-PLACES : goal.returns-then-count-ge-PLACES
 returns-then-count-ge-PLACES c = c.refused-then-count-ge-PLACES.ensures

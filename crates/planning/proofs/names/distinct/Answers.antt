@@ -10,11 +10,11 @@ use Rattle.planning.proofs.names.distinct.Goals as goal
 pub loop-k-init : goal.loop-k-init
 loop-k-init c = (omega arith, below_none _)
 
-pub returns-in-At : goal.returns-in-At
+pub returns-in-Some : goal.returns-in-Some
 unfolding distinct
-returns-in-At c = let names = c.args.names in
+returns-in-Some c = let names = c.args.names in
     sym (every_fails _ _ _ c.loop-k-test.true
-    (some_before names _ _ (name_at names _) (sym c.in-At.ensures)))
+    (some_before names _ _ (name_at names _) (sym c.in-Some.ensures)))
 
 pub loop-k-preserved : goal.loop-k-preserved
 loop-k-preserved c = let names = c.args.names in (
