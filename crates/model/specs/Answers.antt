@@ -1,5 +1,5 @@
 -- Answers, and the number of each refusal. Assumes nothing.
-use Rattle.std.specs.Prelude.{ℕ, zero, suc, Bool, true, false, Option, Some, None, Result, Ok, Err}
+use Rattle.std.specs.Prelude.{ℕ, zero, suc, Bool, cond, true, false, Option, Some, None, Result, Ok, Err}
 use Rattle.model.specs.declared.Refusal.{Refusal}
 use Rattle.model.specs.declared.Refusal.TheVariants.{Unsound, Short, UnknownMark, OutOfSequence, TooMany, OutsideValues, FewYears, LargeUnit, BadDownstream, BadGauge, NegativeFlow, NegativeRecharge, NoSuchPlace, NoSuchUse, BadVolume, NumbersGiven, EntryFull, NoWater, ReceiverBelow, NotInForce, FlowNeeded, TooLong, FifthName, NoSuchName}
 
@@ -39,8 +39,7 @@ accepted = Ok tt
 
 -- The first refusal whose test holds: this one, or else what follows.
 abbrev pub refuse : Refusal → Bool → Answer → Answer
-refuse r true rest = Err r
-refuse r false rest = rest
+refuse r t rest = cond t (Err r) rest
 
 -- The first place from i on at which the test holds, of n places.
 unfoldable pub first_from : ℕ → ℕ → (ℕ → Bool) → Option ℕ

@@ -1,4 +1,4 @@
-// The refusals of reading, by number; 0 where none applies.
+// The refusals of reading.
 ghost use Rattle.std.specs.Prelude.{◌≡◌, ◌+◌, ◌≤◌, pos, length};
 ghost use Rattle.std.specs.Int.Signed.{lt_z};
 ghost use Rattle.laws.specs.Signed.{above};
@@ -11,7 +11,7 @@ ghost use Rattle.record.specs.Fault.{Sane};
 
 use crate::UnitRecord;
 use crate::bytes::bits32;
-use model::{Aquifer, Balance};
+use model::{Answer, Aquifer, Balance, Refusal};
 
 // A storage change outside -10,000,000 to 10,000,000.
 fn storage_outside(z: i64) -> bool
@@ -64,20 +64,20 @@ fn bad_sum(soils: u64, years: u64, sum: i64) -> bool
 }
 
 // Closing the open unit: 6 or 9.
-pub fn closing_fault(units: usize, soils: u64, years: u64, sum: i64) -> u8
+pub fn closing_fault(units: usize, soils: u64, years: u64, sum: i64) -> Answer
     requires { years ≤ 50 }
     ensures { result ≡ faults.closing_by units soils years sum }
 {
     if units == 0 {
-        return 0;
+        return Ok(());
     }
     if years < 20 {
-        return 6;
+        return Err(Refusal::FewYears);
     }
     if bad_sum(soils, years, sum) {
-        return 9;
+        return Err(Refusal::BadGauge);
     }
-    0
+    Ok(())
 }
 
 // The commitment of a unit that is not an outlet.
@@ -118,22 +118,22 @@ fn not_onward(downstream: u8, own: usize) -> bool
 }
 
 // A UN: 3, 4, 5 or 8.
-pub fn unit_fault(units: usize, aquifers: usize, u: UnitRecord) -> u8
+pub fn unit_fault(units: usize, aquifers: usize, u: UnitRecord) -> Answer
     ensures { result ≡ faults.unit_fault units aquifers u }
 {
     if 0 < aquifers {
-        return 3;
+        return Err(Refusal::OutOfSequence);
     }
     if Balance::UNITS <= units {
-        return 4;
+        return Err(Refusal::TooMany);
     }
     if unit_outside(u) {
-        return 5;
+        return Err(Refusal::OutsideValues);
     }
     if not_onward(u.downstream, units + 1) {
-        return 8;
+        return Err(Refusal::BadDownstream);
     }
-    0
+    Ok(())
 }
 
 // A field of an SU outside its values.
@@ -166,29 +166,29 @@ pub fn soil_fault(
     cover: u8,
     soil: u8,
     hectares: u32,
-) -> u8
+) -> Answer
     requires { Sane u }
     ensures { result ≡ faults.soil_fault units aquifers u cover soil hectares }
 {
     if 0 < aquifers {
-        return 3;
+        return Err(Refusal::OutOfSequence);
     }
     if units == 0 {
-        return 3;
+        return Err(Refusal::OutOfSequence);
     }
     if 0 < u.years {
-        return 3;
+        return Err(Refusal::OutOfSequence);
     }
     if 16 <= u.soils {
-        return 4;
+        return Err(Refusal::TooMany);
     }
     if soil_outside(cover, soil, hectares) {
-        return 5;
+        return Err(Refusal::OutsideValues);
     }
     if 300000 < u.hectares + (hectares as u64) {
-        return 7;
+        return Err(Refusal::LargeUnit);
     }
-    0
+    Ok(())
 }
 
 // A year's rain in tenths outside its values.
@@ -202,25 +202,25 @@ fn rain_outside(tenths: u64) -> bool
 }
 
 // A year's rain in tenths: 3, 4 or 5.
-pub fn rain_fault(units: usize, aquifers: usize, u: UnitRecord, tenths: u64) -> u8
+pub fn rain_fault(units: usize, aquifers: usize, u: UnitRecord, tenths: u64) -> Answer
     ensures { result ≡ faults.rain_fault units aquifers u Tenths tenths }
 {
     if 0 < aquifers {
-        return 3;
+        return Err(Refusal::OutOfSequence);
     }
     if units == 0 {
-        return 3;
+        return Err(Refusal::OutOfSequence);
     }
     if u.soils == 0 {
-        return 3;
+        return Err(Refusal::OutOfSequence);
     }
     if 50 <= u.years {
-        return 4;
+        return Err(Refusal::TooMany);
     }
     if rain_outside(tenths) {
-        return 5;
+        return Err(Refusal::OutsideValues);
     }
-    0
+    Ok(())
 }
 
 // A field of an AF outside its values.
@@ -262,27 +262,27 @@ pub fn gauge_fault(
     s: &[u8],
     at: usize,
     storage: i64,
-) -> u8
+) -> Answer
     requires at_in_bounds { at + 34 ≤ length s.now }
     requires storage_value { storage ≡ signed_bits32 s.now (at + 30) }
     ensures { result ≡ faults.gauge_fault units aquifers u (faults.gauge_outside_at s.now at) }
 {
     if 0 < aquifers {
-        return 3;
+        return Err(Refusal::OutOfSequence);
     }
     if units == 0 {
-        return 3;
+        return Err(Refusal::OutOfSequence);
     }
     if 0 < u.soils {
-        return 3;
+        return Err(Refusal::OutOfSequence);
     }
     if 50 <= u.years {
-        return 4;
+        return Err(Refusal::TooMany);
     }
     if outside_at(s, at, storage) {
-        return 5;
+        return Err(Refusal::OutsideValues);
     }
-    0
+    Ok(())
 }
 
 // A field of an AC outside its values.
@@ -317,17 +317,17 @@ fn negative_recharge(a: Aquifer) -> bool
 }
 
 // An AC: 4, 5 or 11.
-pub fn aquifer_fault(aquifers: usize, a: Aquifer) -> u8
+pub fn aquifer_fault(aquifers: usize, a: Aquifer) -> Answer
     ensures { result ≡ faults.aquifer_fault aquifers a }
 {
     if Balance::AQUIFERS <= aquifers {
-        return 4;
+        return Err(Refusal::TooMany);
     }
     if aquifer_outside(a) {
-        return 5;
+        return Err(Refusal::OutsideValues);
     }
     if negative_recharge(a) {
-        return 11;
+        return Err(Refusal::NegativeRecharge);
     }
-    0
+    Ok(())
 }

@@ -12,6 +12,7 @@ pub use fault::{aquifer_fault, closing_fault, gauge_fault, rain_fault, soil_faul
 pub use fields::{
     aquifer_record, mark_of, spells, unit_of, unit_record, with_soil, with_year, year_at,
 };
+use model::{Call, Refusal};
 
 // A unit as its book describes it: the offset of its UN mark, the fields of its UN, and of the records after it how many soil records
 // there are, their hectares and weighted hectares, how many years there are and their sum (rain years in 6,000,000,000ths).
@@ -33,7 +34,7 @@ pub struct UnitRecord {
     pub sum: i64,
 }
 
-// What two bytes say as a mark.
+// The mark of a record of a description, or of a call.
 #[derive(Clone, Copy)]
 pub enum Mark {
     Un,
@@ -43,10 +44,9 @@ pub enum Mark {
     Af,
     Ac,
     Call,
-    Unknown,
 }
 
-// Which call two bytes are the mark of.
+// The mark of a call.
 #[derive(Clone, Copy)]
 pub enum CallMark {
     Gu,
@@ -55,7 +55,6 @@ pub enum CallMark {
     Ta,
     Gw,
     Ca,
-    None,
 }
 
 // What stands at an offset after the description: nothing more, a record that fails with 1 or 2, or a call and the offset of the next
@@ -63,13 +62,16 @@ pub enum CallMark {
 #[derive(Clone, Copy)]
 pub enum CallAt {
     End,
-    Fails { number: u8 },
-    Asks { call: model::Call, to: usize },
+    Fails { refusal: Refusal },
+    Asks { call: Call, to: usize },
 }
 
-// How the calls of a book end: with the book, or with a record that fails with 1 or 2 at its place.
-#[derive(Clone, Copy)]
-pub enum Ending {
-    Finished,
-    Failed { number: u8, place: usize },
+// A refusal, and its place: the offset of a mark, or the number of a unit.
+#[derive(Clone, Copy, PartialEq, Eq, Debug)]
+pub struct Failure {
+    pub refusal: Refusal,
+    pub place: usize,
 }
+
+// How the calls of a book end: with the book, or with a record that is short or unknown.
+pub type Ending = Result<(), Failure>;
