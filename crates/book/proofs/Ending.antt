@@ -7,6 +7,7 @@ use lib.Dec.{ltb}
 use lib.Signed.{non_neg}
 use native.Mathlib.Numerals.{add-one}
 use borrow.Author.Tests.{ltb-false}
+use Rattle.model.specs.declared.Refusal.TheVariants.{BadDownstream, NegativeFlow}
 use Rattle.model.specs.declared.Balance.{Balance}
 use Rattle.model.specs.View.{View, view_of}
 use Rattle.river.specs.Flow.{downstream, flow, Ready}
@@ -33,14 +34,14 @@ pub negative_below : (v : View) (j : ℕ) → negative v ≡ Some j → j < v.un
 negative_below v j e = (at_first (λ j. not (non_neg (flow v j))) v.units j e).0
 
 module _ (b : Balance) (at : ℕ) where
-  pub tested_missing : (j : ℕ) → missing (view_of b) ≡ Some j → refused_with 8 (j + 1) ≡ tested_with b at
-  tested_missing j e = ap (refused_with 8) (add-one j) ∙ sym (ap (λ (f : Option ℕ). unless_at 8 f (unless_at 10 (negative (view_of b)) (record { answer = Ok tt; place = at; balance = b }))) e)
+  pub tested_missing : (j : ℕ) → missing (view_of b) ≡ Some j → refused_with BadDownstream (j + 1) ≡ tested_with b at
+  tested_missing j e = ap (refused_with BadDownstream) (add-one j) ∙ sym (ap (λ (f : Option ℕ). unless_at BadDownstream f (unless_at NegativeFlow (negative (view_of b)) (record { answer = Ok tt; place = at; balance = b }))) e)
 
-  pub tested_negative : (j : ℕ) → missing (view_of b) ≡ None → negative (view_of b) ≡ Some j → refused_with 10 (j + 1) ≡ tested_with b at
+  pub tested_negative : (j : ℕ) → missing (view_of b) ≡ None → negative (view_of b) ≡ Some j → refused_with NegativeFlow (j + 1) ≡ tested_with b at
   tested_negative j e g =
-      ap (refused_with 10) (add-one j)
-      ∙ sym (λ i. unless_at 8 (e i) (unless_at 10 (g i) (record { answer = Ok tt; place = at; balance = b })))
+      ap (refused_with NegativeFlow) (add-one j)
+      ∙ sym (λ i. unless_at BadDownstream (e i) (unless_at NegativeFlow (g i) (record { answer = Ok tt; place = at; balance = b })))
 
   pub tested_accepted : missing (view_of b) ≡ None → negative (view_of b) ≡ None
       → ◌≡◌ {A = Opened} (record { answer = Ok tt; place = at; balance = b }) (tested_with b at)
-  tested_accepted e g = sym (λ i. unless_at 8 (e i) (unless_at 10 (g i) (record { answer = Ok tt; place = at; balance = b })))
+  tested_accepted e g = sym (λ i. unless_at BadDownstream (e i) (unless_at NegativeFlow (g i) (record { answer = Ok tt; place = at; balance = b })))

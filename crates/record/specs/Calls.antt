@@ -4,6 +4,7 @@ use Rattle.model.specs.declared.Refusal.{Refusal}
 use Rattle.model.specs.declared.Refusal.TheVariants.{Short, UnknownMark}
 use Rattle.model.specs.declared.Title.TheVariants.{UnitWithdrawal, AquiferWithdrawal, UnitTransfer, AquiferTransfer, ReturningWithdrawal}
 use Rattle.model.specs.declared.Call.{Call}
+use Rattle.model.specs.Answers.{Answer}
 use Rattle.model.specs.declared.Call.TheVariants.{Grant, Cancel}
 use Rattle.record.specs.declared.CallMark.{CallMark}
 use Rattle.record.specs.declared.CallMark.TheVariants.{Gu, Ga, Tu, Ta, Gw, Ca}
@@ -53,6 +54,11 @@ Ending = Result (Unit {0}) Failure
 
 abbrev pub failed : Refusal → ℕ → Ending
 failed r place = Err (record { refusal = r; place = place })
+
+-- An answer with the place of its refusal.
+abbrev pub located : Answer → ℕ → Ending
+located (Ok u) place = Ok tt
+located (Err r) place = failed r place
 
 -- The calls that stand from an offset on, in order, and how they end, of at most so many records.
 unfoldable pub calls_from : ℕ → List ℕ → ℕ → List Call

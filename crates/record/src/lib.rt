@@ -1,6 +1,9 @@
 // The records of a book: their bytes, marks and fields, the faults of a description's records, and the calls.
 #![tactic(auto)]
 
+ghost use Rattle.std.specs.Prelude.{◌≡◌};
+ghost use Rattle.record.specs.Calls as ends;
+
 mod bytes;
 mod calls;
 mod fault;
@@ -12,7 +15,7 @@ pub use fault::{aquifer_fault, closing_fault, gauge_fault, rain_fault, soil_faul
 pub use fields::{
     aquifer_record, mark_of, spells, unit_of, unit_record, with_soil, with_year, year_at,
 };
-use model::{Call, Refusal};
+use model::{Answer, Call, Refusal};
 
 // A unit as its book describes it: the offset of its UN mark, the fields of its UN, and of the records after it how many soil records
 // there are, their hectares and weighted hectares, how many years there are and their sum (rain years in 6,000,000,000ths).
@@ -32,6 +35,14 @@ pub struct UnitRecord {
     pub weighted: u64,
     pub years: u64,
     pub sum: i64,
+}
+
+// How far a description is read: how many units and aquifers there are, and the open unit, which is the last.
+#[derive(Clone, Copy)]
+pub struct Progress {
+    pub units: usize,
+    pub aquifers: usize,
+    pub open: UnitRecord,
 }
 
 // The mark of a record of a description, or of a call.
@@ -71,6 +82,22 @@ pub enum CallAt {
 pub struct Failure {
     pub refusal: Refusal,
     pub place: usize,
+}
+
+impl Failure {
+    // A refusal at a place.
+    pub fn new(refusal: Refusal, place: usize) -> Self
+        ensures { result ≡ record { refusal = refusal; place = place } }
+    {
+        Failure { refusal, place }
+    }
+}
+
+// An answer with the place of its refusal.
+pub fn located(answer: Answer, place: usize) -> Result<(), Failure>
+    ensures { result ≡ ends.located answer place }
+{
+    answer.map_err(|refusal| Failure::new(refusal, place))
 }
 
 // How the calls of a book end: with the book, or with a record that is short or unknown.
