@@ -44,10 +44,16 @@ fn tested(b: Balance, at: usize) -> Result<Opened, Failure>
     ensures { opening.handed_back result ≡ opening.tested_with b at }
 {
     if let Some(j) = first_missing(&b) {
-        return Err(Failure::new(Refusal::BadDownstream, j + 1));
+        return Err(Failure {
+ refusal: Refusal::BadDownstream,
+ place: j + 1,
+ });
     }
     if let Some(j) = river::first_negative(b.units, b.unit_count) {
-        return Err(Failure::new(Refusal::NegativeFlow, j + 1));
+        return Err(Failure {
+ refusal: Refusal::NegativeFlow,
+ place: j + 1,
+ });
     }
     Ok(Opened {
         answer: Ok(()),
@@ -121,7 +127,10 @@ fn read(s: &[u8]) -> Result<Opened, Failure>
             }
         }
     }
-    Err(Failure::new(Refusal::Short, at))
+    Err(Failure {
+ refusal: Refusal::Short,
+ place: at,
+ })
 }
 
 // Opening a book: a refused one hands back the fresh balance.

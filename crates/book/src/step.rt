@@ -115,7 +115,10 @@ pub fn next(p: &Progress, s: &[u8], at: usize) -> Result<Next, Failure>
         return Ok(Next::Ends);
     }
     if left == 1 {
-        return Err(Failure::new(Refusal::Short, at));
+        return Err(Failure {
+ refusal: Refusal::Short,
+ place: at,
+ });
     }
     match mark_of(s[at], s[at + 1]) {
         Some(Mark::Un) => unit_step(p, s, at),
@@ -125,6 +128,9 @@ pub fn next(p: &Progress, s: &[u8], at: usize) -> Result<Next, Failure>
         Some(Mark::Af) => gauge_step(p, s, at),
         Some(Mark::Ac) => aquifer_step(p, s, at),
         Some(Mark::Call) => Ok(Next::Ends),
-        None => Err(Failure::new(Refusal::UnknownMark, at)),
+        None => Err(Failure {
+ refusal: Refusal::UnknownMark,
+ place: at,
+ }),
     }
 }

@@ -4,6 +4,7 @@
 ghost use Rattle.std.specs.Prelude.{◌≡◌};
 ghost use Rattle.model.specs.Fresh as fresh;
 ghost use Rattle.model.specs.Answers as answers;
+ghost use Rattle.model.specs.Entries as entries;
 
 // A basin unit: the number of its downstream unit (0 for an outlet), its entries with its titles in, and its natural runoff.
 // All volumes are thousand m³; a rise of storage is positive.
@@ -132,6 +133,21 @@ pub type Answer = Result<(), Refusal>;
 pub enum Call {
     Grant { title: Title },
     Cancel { number: u16 },
+}
+
+impl Title {
+    // The volume of a title of any kind.
+    pub fn volume(self) -> u32
+        ensures { result ≡ entries.volume_of self }
+    {
+        match self {
+            Title::UnitWithdrawal { volume, .. }
+            | Title::AquiferWithdrawal { volume, .. }
+            | Title::UnitTransfer { volume, .. }
+            | Title::AquiferTransfer { volume, .. }
+            | Title::ReturningWithdrawal { volume, .. } => volume,
+        }
+    }
 }
 
 impl Refusal {

@@ -23,7 +23,8 @@ use Rattle.runoff.proofs.Record.{weighted_within}
 use Rattle.record.specs.declared.UnitRecord.{UnitRecord}
 use Rattle.record.specs.Record.{with_soil, with_year, is_gauged}
 use Rattle.record.specs.Fault.{Sane, Closed, YearRange, closing_fault, bad_gauge, not_term, terms_outside, stray_commitment, unit_outside, not_onward, unit_fault, aquifer_outside, aquifer_fault}
-use Rattle.record.proofs.Faults.{pass, or_left, or_right, StorageWithin, storage_within, terms_within, AquiferWithin, aquifer_within}
+use Rattle.model.proofs.Answers.{pass}
+use Rattle.record.proofs.Faults.{or_left, or_right, StorageWithin, storage_within, terms_within, AquiferWithin, aquifer_within}
 
 -- The fields of the unit at index k are inside their values, and it drains onward.
 pub record Fine (k : ℕ) (u : UnitRecord) : Type 0 where

@@ -13,8 +13,7 @@ use Rattle.laws.proofs.Cases.{by_lt}
 use Rattle.laws.proofs.Parts.{Less, less_above, less_below, by_sign}
 use Rattle.model.specs.declared.Refusal.{Refusal}
 use Rattle.model.specs.declared.Aquifer.{Aquifer}
-use Rattle.model.specs.Answers.{Answer, refuse}
-use Rattle.model.proofs.Answers.{not_accepted}
+use Rattle.model.proofs.Answers.{pass}
 use Rattle.record.specs.declared.UnitRecord.{UnitRecord}
 use Rattle.runoff.specs.Soil.{Known}
 use Rattle.record.specs.Fault.{not_term, not_storage, terms_outside, aquifer_outside, soil_outside, soil_fault, rain_outside, rain_fault, gauge_outside_by, gauge_outside, gauge_fault, YearRange, gauge_outside_at, gauged_outside}
@@ -84,15 +83,6 @@ less_negative {z} {a} {b} p =
     by_lt a b
     (λ h. lt-ltb a b h ∙ sym (by_sign z (λ g. absurd (omega arith)) (λ g k. negative_below z k)))
     (λ h. le-ltb a b h ∙ sym (by_sign z (λ g. not_negative z (omega arith)) (λ g k. absurd (omega arith))))
-
--- A test of a chain that accepted did not hold, and neither did those after it.
-pub record Passed (t : Bool) (rest : Answer) : Type 0 where
-  pub not : t ≡ false
-  pub on : rest ≡ Ok tt
-
-pub pass : (t : Bool) (r : Refusal) (rest : Answer) → refuse r t rest ≡ Ok tt → Passed t rest
-pass true r rest e = absurd (not_accepted r e)
-pass false r rest e = record { not = refl; on = e }
 
 -- What a record without a fault satisfies.
 pub record SoilClean (units aquifers : ℕ) (u : UnitRecord) (cover soil hectares : ℕ) : Type 0 where

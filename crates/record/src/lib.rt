@@ -84,20 +84,11 @@ pub struct Failure {
     pub place: usize,
 }
 
-impl Failure {
-    // A refusal at a place.
-    pub fn new(refusal: Refusal, place: usize) -> Self
-        ensures { result ≡ record { refusal = refusal; place = place } }
-    {
-        Failure { refusal, place }
-    }
-}
-
 // An answer with the place of its refusal.
 pub fn located(answer: Answer, place: usize) -> Result<(), Failure>
     ensures { result ≡ ends.located answer place }
 {
-    answer.map_err(|refusal| Failure::new(refusal, place))
+    answer.map_err(|refusal| Failure { refusal, place })
 }
 
 // How the calls of a book end: with the book, or with a record that is short or unknown.
