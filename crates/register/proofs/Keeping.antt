@@ -4,6 +4,7 @@ use Prim.Native.Nat.{ℕ, ◌+◌}
 use mathlib.Core.Path.{◌≡◌, refl, sym, ap, ◌∙◌}
 use mathlib.Core.Bool.{true, false}
 use Rattle.laws.proofs.Cases.{by_bool}
+use Rattle.model.specs.declared.Refusal.{Refusal}
 use Rattle.model.specs.declared.Refusal.TheVariants.{Unsound}
 use Rattle.model.specs.declared.Balance.{Balance}
 use Rattle.model.specs.declared.Call.{Call}
@@ -44,13 +45,13 @@ call_keeps b c z =
     by_bool (sound (view_of b)) (λ e. e ∙ sym (call_sound b c z e))
     (λ e. ap (λ (r : Reply). sound (view_of r.balance)) (call_unsound b c e))
 
-outcome_keeps : (r : Answer) (old new : Balance) (m k : ℕ) → (replied r old new m).answer ≡ Err k
+outcome_keeps : (r : Answer) (old new : Balance) (m : ℕ) (k : Refusal) → (replied r old new m).answer ≡ Err k
     → ((replied r old new m).balance ≡ old) × ((replied r old new m).number ≡ 0)
 outcome_keeps (Ok u) old new m k e = absurd (not_refused k (replied (Ok tt) old new m) e refl)
 outcome_keeps (Err n) old new m k e = (refl, refl)
 
 -- A refused call returns the balance handed to it, whatever that is, and 0 as the title's number.
-pub refused_keeps : (b : Balance) (c : Call) (k : ℕ) → (call_reply b c).answer ≡ Err k → ((call_reply b c).balance ≡ b) × ((call_reply b c).number ≡ 0)
+pub refused_keeps : (b : Balance) (c : Call) (k : Refusal) → (call_reply b c).answer ≡ Err k → ((call_reply b c).balance ≡ b) × ((call_reply b c).number ≡ 0)
 refused_keeps b (Grant t) k e = outcome_keeps (after_test b (grant_refusal (view_of b) t)) b (posted b t) (b.given + 1) k e
 refused_keeps b (Cancel n) k e = outcome_keeps (after_test b (cancel_refusal (view_of b) n)) b (without_title b n) n k e
 

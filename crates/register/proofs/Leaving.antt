@@ -133,9 +133,9 @@ cancel_released b n a =
     (λ e. by_bool (number_in_force (view_of b) n)
     (λ q. by_bool (flowing (cancelled (view_of b) n))
     (λ d. record { sound_before = e; stands = q; flows = d })
-    (λ d. absurd (not_refused 20 (cancel_reply b n) (ap (λ (r : Reply). r.answer) (sym (reply_needed b n e q d))) a)))
-    (λ q. absurd (not_refused 19 (cancel_reply b n) (ap (λ (r : Reply). r.answer) (sym (reply_not_in_force b n e q))) a)))
-    (λ e. absurd (not_refused 0 (cancel_reply b n) (ap (λ (r : Reply). r.answer) (sym (reply_fault b n e))) a))
+    (λ d. absurd (not_refused FlowNeeded (cancel_reply b n) (ap (λ (r : Reply). r.answer) (sym (reply_needed b n e q d))) a)))
+    (λ q. absurd (not_refused NotInForce (cancel_reply b n) (ap (λ (r : Reply). r.answer) (sym (reply_not_in_force b n e q))) a)))
+    (λ e. absurd (not_refused Unsound (cancel_reply b n) (ap (λ (r : Reply). r.answer) (sym (reply_fault b n e))) a))
 
 -- The reply to an accepted cancellation.
 pub released_reply : (b : Balance) (n : ℕ) → Released b n → replied (Ok tt) b (without_title b n) n ≡ cancel_reply b n

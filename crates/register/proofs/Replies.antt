@@ -5,6 +5,7 @@ use mathlib.Core.Path.{◌≡◌, refl, sym, ap, ◌∙◌}
 use mathlib.Core.Bool.{Bool, true, false, not}
 use native.Mathlib.Omega.{arith}
 use borrow.Author.Tests.{ne_eqb}
+use Rattle.model.specs.declared.Refusal.{Refusal}
 use Rattle.model.specs.declared.Refusal.TheVariants.{Unsound, NoWater}
 use Rattle.model.specs.declared.Balance.{Balance}
 use Rattle.model.specs.declared.Title.{Title}
@@ -18,11 +19,11 @@ use Rattle.effect.specs.Granted.{granted, posted, lacking, Grantable}
 use Rattle.effect.proofs.Taking.{units_more, wells_more}
 use Rattle.refusal.specs.Grant.{no_water, grant_refusal}
 use Rattle.register.specs.Reply.{after_test, replied, grant_reply}
-use Rattle.refusal.specs.Steps.{early_number}
-use Rattle.refusal.proofs.Granting.{judged, grant_judged, granting_of}
+use Rattle.refusal.specs.Steps.{early_fault, then_answer}
+use Rattle.refusal.proofs.Granting.{grant_judged, granting_of}
 
 module _ (b : Balance) (t : Title) where
-  pub grantable_of : sound (view_of b) ≡ true → early_number (view_of b) t ≡ 0 → Grantable b t
+  pub grantable_of : sound (view_of b) ≡ true → early_fault (view_of b) t ≡ Ok tt → Grantable b t
   grantable_of e q =
       let v = view_of b in
       let s = soundness v e in
@@ -42,23 +43,23 @@ module _ (b : Balance) (t : Title) where
   abbrev water : Answer
   water = refuse NoWater (no_water (granted (view_of b) t) t) (Ok tt)
 
-  judged_as : (n : ℕ) → sound (view_of b) ≡ true → early_number (view_of b) t ≡ n → after_test b (grant_refusal (view_of b) t) ≡ judged n water
-  judged_as n e q = tested true e ∙ grant_judged (view_of b) t ∙ ap (λ (m : ℕ). judged m water) q
+  judged_as : (n : Answer) → sound (view_of b) ≡ true → early_fault (view_of b) t ≡ n → after_test b (grant_refusal (view_of b) t) ≡ then_answer n water
+  judged_as n e q = tested true e ∙ grant_judged (view_of b) t ∙ ap (λ (m : Answer). then_answer m water) q
 
   -- 0.
   pub reply_unsound : sound (view_of b) ≡ false → replied (Err Unsound) b b 0 ≡ grant_reply b t
   reply_unsound e = by_refusal (Err Unsound) (tested false e)
 
   -- 12 to 16 and 18.
-  pub reply_early : (n : ℕ) → sound (view_of b) ≡ true → n ≡ early_number (view_of b) t → 0 < n → replied (Err n) b b 0 ≡ grant_reply b t
-  reply_early n e q h = by_refusal (Err n) (judged_as n e (sym q) ∙ rw (ne_eqb n 0 (omega arith)) refl)
+  pub reply_early : (r : Refusal) → sound (view_of b) ≡ true → early_fault (view_of b) t ≡ Err r → replied (Err r) b b 0 ≡ grant_reply b t
+  reply_early r e q = by_refusal (Err r) (judged_as (Err r) e q)
 
   -- 17.
-  pub reply_dry : sound (view_of b) ≡ true → early_number (view_of b) t ≡ 0 → no_water (granted (view_of b) t) t ≡ true
+  pub reply_dry : sound (view_of b) ≡ true → early_fault (view_of b) t ≡ Ok tt → no_water (granted (view_of b) t) t ≡ true
       → replied (Err NoWater) b b 0 ≡ grant_reply b t
-  reply_dry e q d = by_refusal (Err NoWater) (judged_as 0 e q ∙ ap (λ (x : Bool). refuse NoWater x (Ok tt)) d)
+  reply_dry e q d = by_refusal (Err NoWater) (judged_as (Ok tt) e q ∙ ap (λ (x : Bool). refuse NoWater x (Ok tt)) d)
 
   -- Accepted.
-  pub reply_given : sound (view_of b) ≡ true → early_number (view_of b) t ≡ 0 → no_water (granted (view_of b) t) t ≡ false
+  pub reply_given : sound (view_of b) ≡ true → early_fault (view_of b) t ≡ Ok tt → no_water (granted (view_of b) t) t ≡ false
       → replied (Ok tt) b (posted b t) (b.given + 1) ≡ grant_reply b t
-  reply_given e q d = by_refusal (Ok tt) (judged_as 0 e q ∙ ap (λ (x : Bool). refuse NoWater x (Ok tt)) d)
+  reply_given e q d = by_refusal (Ok tt) (judged_as (Ok tt) e q ∙ ap (λ (x : Bool). refuse NoWater x (Ok tt)) d)

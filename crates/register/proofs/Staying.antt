@@ -8,6 +8,8 @@ use native.Mathlib.Omega.{arith}
 use borrow.Author.Tests.{eq-eqb, ne_eqb}
 use Rattle.laws.proofs.Cases.{by_bool, by_eq}
 use Rattle.laws.proofs.Putting.{sum_put_next}
+use Rattle.model.specs.declared.Refusal.{Refusal}
+use Rattle.model.specs.declared.Refusal.TheVariants.{Unsound, NoWater}
 use Rattle.model.specs.declared.Unit.{Unit}
 use Rattle.model.specs.declared.Title.{Title}
 use Rattle.model.specs.declared.Title.TheVariants.{UnitWithdrawal, AquiferWithdrawal, UnitTransfer, AquiferTransfer, ReturningWithdrawal}
@@ -30,7 +32,8 @@ use Rattle.effect.specs.Granted.{posted, granted, Sized}
 use Rattle.refusal.specs.Grant.{wanting, dry, no_water}
 use Rattle.model.specs.Answers.{Answer}
 use Rattle.register.specs.Reply.{replied, grant_reply}
-use Rattle.refusal.specs.Steps.{early_number}
+use Rattle.refusal.specs.Steps.{early_fault}
+use Rattle.model.proofs.Answers.{by_answer}
 use Rattle.register.specs.declared.Reply.{Reply}
 use Rattle.effect.proofs.Taking.{elsewhere}
 use Rattle.refusal.proofs.Granting.{Granting, granting_of, unit_stays, aquifer_stays}
@@ -134,7 +137,7 @@ granted_flows v (AquiferTransfer a u x) s g d = well_flows v (AquiferTransfer a 
 granted_flows v (ReturningWithdrawal a u r x) s g d = well_flows v (ReturningWithdrawal a u r x) s g (λ k. (refl, refl))
 
 -- A sound view stays sound with a title in that no refusal meets.
-pub granted_sound : (v : View) (t : Title) → sound v ≡ true → early_number v t ≡ 0 → no_water (granted v t) t ≡ false
+pub granted_sound : (v : View) (t : Title) → sound v ≡ true → early_fault v t ≡ Ok tt → no_water (granted v t) t ≡ false
     → sound (granted v t) ≡ true
 granted_sound v t e q d =
     let s = soundness v e in
@@ -145,25 +148,24 @@ abbrev is_accepted : Answer → Bool
 is_accepted (Ok u) = true
 is_accepted (Err n) = false
 
-pub not_refused : (n : ℕ) (r : Reply) → r.answer ≡ Err n → r.answer ≡ Ok tt → ⊥
+pub not_refused : (n : Refusal) (r : Reply) → r.answer ≡ Err n → r.answer ≡ Ok tt → ⊥
 not_refused n r e a = true≢false (sym (ap is_accepted a) ∙ ap is_accepted e)
 
 -- What holds where a grant is accepted.
 pub record Given (b : Balance) (t : Title) : Type 0 where
   pub sound_before : sound (view_of b) ≡ true
-  pub none_early : early_number (view_of b) t ≡ 0
+  pub none_early : early_fault (view_of b) t ≡ Ok tt
   pub water : no_water (granted (view_of b) t) t ≡ false
 
 pub grant_given : (b : Balance) (t : Title) → (grant_reply b t).answer ≡ Ok tt → Given b t
 grant_given b t a =
     by_bool (sound (view_of b))
-    (λ e. by_eq (early_number (view_of b) t) 0
+    (λ e. by_answer (early_fault (view_of b) t)
     (λ q. by_bool (no_water (granted (view_of b) t) t)
-    (λ d. absurd (not_refused 17 (grant_reply b t) (ap (λ (r : Reply). r.answer) (sym (reply_dry b t e q d))) a))
+    (λ d. absurd (not_refused NoWater (grant_reply b t) (ap (λ (r : Reply). r.answer) (sym (reply_dry b t e q d))) a))
     (λ d. record { sound_before = e; none_early = q; water = d }))
-    (λ q. absurd (not_refused _ (grant_reply b t)
-    (ap (λ (r : Reply). r.answer) (sym (reply_early b t (early_number (view_of b) t) e refl (omega arith)))) a)))
-    (λ e. absurd (not_refused 0 (grant_reply b t) (ap (λ (r : Reply). r.answer) (sym (reply_unsound b t e))) a))
+    (λ n q. absurd (not_refused n (grant_reply b t) (ap (λ (r : Reply). r.answer) (sym (reply_early b t n e q))) a)))
+    (λ e. absurd (not_refused Unsound (grant_reply b t) (ap (λ (r : Reply). r.answer) (sym (reply_unsound b t e))) a))
 
 -- The reply to an accepted grant.
 pub given_reply : (b : Balance) (t : Title) → Given b t → replied (Ok tt) b (posted b t) (b.given + 1) ≡ grant_reply b t

@@ -1,5 +1,5 @@
 -- Laws of a test over the places below a number: the first at which it holds. Assumes nothing.
-use Rattle.std.specs.Prelude.{Some, None}
+use Rattle.std.specs.Prelude.{Option, Some, None, is_some}
 use Prim.Native.Nat.{ℕ, zero, suc, ◌+◌, ◌≤◌, ◌<◌}
 use mathlib.Core.Path.{◌≡◌, refl, sym, ap, ◌∙◌}
 use mathlib.Core.Bool.{Bool, true, false, not}
@@ -86,6 +86,14 @@ module _ (t : ℕ → Bool) where
       by_bool (every n t)
       (λ q. let z = every_nothing n q in let w : ◌≡◌ {A = ℕ} 0 1 = cc in absurd (omega arith))
       (λ q. q)
+
+-- There is such a place exactly where the test fails somewhere.
+pub some_fails : (t : ℕ → Bool) (n : ℕ) → is_some (first n (λ k. not (t k))) ≡ not (every n t)
+some_fails t n = by_found (first n (λ k. not (t k))) refl
+  where
+    by_found : (f : Option ℕ) → first n (λ k. not (t k)) ≡ f → is_some f ≡ not (every n t)
+    by_found None e = sym (ap not (nothing_every t n e))
+    by_found (Some j) e = sym (ap not (at_fails t n j e))
 
 -- The first place of tests that agree is the same.
 first_from_same : (n s : ℕ) (t r : ℕ → Bool) → ((k : ℕ) → s ≤ k → k < n + s → t k ≡ r k) → first_from n s t ≡ first_from n s r

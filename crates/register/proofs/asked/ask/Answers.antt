@@ -6,7 +6,7 @@ use Rattle.basin.proofs.Soundness.{soundness}
 use Rattle.register.specs.Calls.{call_reply}
 use Rattle.register.proofs.Keeping.{refused_keeps, accepted_number, accepted_from_sound}
 use Rattle.register.proofs.asked.ask.Goals as goal
-use Rattle.register.proofs.asked.ask.Goals.{In-Accepted}
+use Rattle.register.proofs.asked.ask.Goals.{In-Ok}
 
 -- The call is accepted.
 accepted : (c : In-Ok) → let start = c in (call_reply start.args.b start.args.c).answer ≡ Ok tt
