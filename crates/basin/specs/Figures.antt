@@ -1,6 +1,7 @@
 -- The reply of reading the figures: every call first gives 0 if the balance handed to it is not sound. Assumes nothing.
-use Rattle.std.specs.Prelude.{cond, not, replicate}
-use Rattle.model.specs.Answers.{none, refuse, answered}
+use Rattle.std.specs.Prelude.{cond, not, replicate, Ok}
+use Rattle.model.specs.declared.Refusal.TheVariants.{Unsound}
+use Rattle.model.specs.Answers.{refuse}
 use Rattle.model.specs.View.{View}
 use Rattle.model.specs.Limits.{unit_limit, aquifer_limit}
 use Rattle.figures.specs.Figures.{no_unit_figures, no_aquifer_figures, all_unit_figures, all_aquifer_figures}
@@ -11,7 +12,7 @@ use Rattle.basin.specs.declared.Figures.{Figures}
 abbrev pub figures_reply : View → Figures
 figures_reply v =
     record {
-      answer = answered (refuse 0 (not (sound v)) none);
+      answer = (refuse Unsound (not (sound v)) (Ok tt));
       units = cond (sound v) (all_unit_figures v) (replicate unit_limit no_unit_figures);
       aquifers = cond (sound v) (all_aquifer_figures v) (replicate aquifer_limit no_aquifer_figures);
     }

@@ -8,7 +8,7 @@ ghost use Rattle.basin.specs.Figures as replies;
 use crate::Figures;
 use crate::test::tested;
 use figures::{AquiferFigures, UnitFigures};
-use model::{Answer, Balance};
+use model::{Balance, Refusal};
 use river::Amounts;
 
 // 0 in every place for units.
@@ -32,7 +32,7 @@ pub fn figures(b: Balance) -> Figures
     let mut amounts = Amounts::none();
     if !tested(b, &mut amounts) {
         return Figures {
-            answer: Answer::Refused(0),
+            answer: Err(Refusal::Unsound),
             units: no_units(),
             aquifers: no_aquifers(),
         };
@@ -40,7 +40,7 @@ pub fn figures(b: Balance) -> Figures
     let units = &b.units[..b.unit_count];
     let aquifers = &b.aquifers[..b.aquifer_count];
     Figures {
-        answer: Answer::Accepted,
+        answer: Ok(()),
         units: figures::unit_figures(units, &amounts),
         aquifers: figures::aquifer_figures(aquifers),
     }

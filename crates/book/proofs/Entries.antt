@@ -1,4 +1,5 @@
 -- What holds of the record that stands at an offset, and of one that is not refused. Assumes nothing.
+use Rattle.std.specs.Prelude.{Option, Some, None, Ok, Err}
 use Prim.Native.Nat.{ℕ, suc, ◌+◌, ◌-◌, ◌≤◌, ◌<◌}
 use mathlib.Core.Path.{◌≡◌, refl, subst}
 use mathlib.Core.List.{List, []}
@@ -6,8 +7,10 @@ use lib.ListN.{length}
 use native.Mathlib.Omega.{arith}
 use borrow.Author.Tests.{lt-ltb, le-ltb, eq-eqb, ne_eqb}
 use Rattle.laws.proofs.Cases.{by_lt, by_eq}
+use Rattle.model.specs.declared.Refusal.{Refusal}
+use Rattle.model.specs.Answers.{Answer}
 use Rattle.record.specs.declared.Mark.{Mark}
-use Rattle.record.specs.declared.Mark.TheVariants.{Un, Su, Pr, Pd, Af, Ac, Call, Unknown}
+use Rattle.record.specs.declared.Mark.TheVariants.{Un, Su, Pr, Pd, Af, Ac, Call}
 use Rattle.record.specs.Bytes.{bits8}
 use Rattle.record.specs.Record.{mark_of}
 use Rattle.record.specs.Entries.{Entry, unit_entry, soil_entry, year_entry, aquifer_entry, EntryAt, no_entry, failing, stands, whole_entry, entry_marked, entry_at}
@@ -38,15 +41,15 @@ module _ (s : List ℕ) (at : ℕ) where
       (λ l. rw (lt-ltb (length s - at) size l) tt)
       (λ l. rw (le-ltb (length s - at) size l) (record { onward = omega arith; within = omega arith; begun = b }))
 
-  mark_standing : (m : Mark) → StandingAt s at (entry_marked m s at)
-  mark_standing Un = whole_standing 31 _ (omega arith) (refl, refl)
-  mark_standing Su = whole_standing 8 _ (omega arith) tt
-  mark_standing Pr = whole_standing 4 _ (omega arith) tt
-  mark_standing Pd = whole_standing 4 _ (omega arith) tt
-  mark_standing Af = whole_standing 34 _ (omega arith) tt
-  mark_standing Ac = whole_standing 22 _ (omega arith) tt
-  mark_standing Call = tt
-  mark_standing Unknown = tt
+  mark_standing : (m : Option Mark) → StandingAt s at (entry_marked m s at)
+  mark_standing (Some Un) = whole_standing 31 _ (omega arith) (refl, refl)
+  mark_standing (Some Su) = whole_standing 8 _ (omega arith) tt
+  mark_standing (Some Pr) = whole_standing 4 _ (omega arith) tt
+  mark_standing (Some Pd) = whole_standing 4 _ (omega arith) tt
+  mark_standing (Some Af) = whole_standing 34 _ (omega arith) tt
+  mark_standing (Some Ac) = whole_standing 22 _ (omega arith) tt
+  mark_standing (Some Call) = tt
+  mark_standing None = tt
 
   all_standing : StandingAt s at (entry_at s at)
   unfolding entry_at
@@ -62,18 +65,13 @@ module _ (s : List ℕ) (at : ℕ) where
   standing e to h = subst (StandingAt s at) h all_standing
 
 -- A verdict is clear where neither this fault nor a later one is found.
-pub record Cleared (fault : ℕ) (rest : Verdict) : Type 0 where
-  pub here : fault ≡ 0
+pub record Cleared (fault : Answer) (rest : Verdict) : Type 0 where
+  pub here : fault ≡ Ok tt
   pub later : rest ≡ clear
 
-pub cleared : (fault place : ℕ) (rest : Verdict) → unless_faulty fault place rest ≡ clear → Cleared fault rest
-cleared fault place rest h =
-    by_eq fault 0
-    (λ e. record { here = e; later = rw (eq-eqb fault 0 e) at h })
-    (λ e.
-    let q : faulty fault place ≡ clear = rw (ne_eqb fault 0 e) at h in
-    let z : ◌≡◌ {A = ℕ} 0 1 = cc in
-    absurd (omega arith))
+pub cleared : (fault : Answer) (place : ℕ) (rest : Verdict) → unless_faulty fault place rest ≡ clear → Cleared fault rest
+cleared (Ok u) place rest h = record { here = refl; later = h }
+cleared (Err r) place rest h = let z : ◌≡◌ {A = ℕ} 0 1 = cc in absurd (omega arith)
 
 -- One record more of the definition of reading.
 module _ (f : ℕ) (s : List ℕ) (at : ℕ) (d : Description) where
@@ -81,11 +79,11 @@ module _ (f : ℕ) (s : List ℕ) (at : ℕ) (d : Description) where
   unfolding reading_from
   reads_end h = rw (h, reading_from)
 
-  pub reads_failing : (n : ℕ) → entry_at s at ≡ failing n → reading_from (suc f) s at d ≡ refused n at
+  pub reads_failing : (n : Refusal) → entry_at s at ≡ failing n → reading_from (suc f) s at d ≡ refused n at
   unfolding reading_from
   reads_failing n h = rw (h, reading_from)
 
-  pub reads_faulty : (e : Entry) (to n p : ℕ) → entry_at s at ≡ stands e to → entry_verdict d e at ≡ faulty n p → reading_from (suc f) s at d ≡ refused n p
+  pub reads_faulty : (e : Entry) (to : ℕ) (n : Refusal) (p : ℕ) → entry_at s at ≡ stands e to → entry_verdict d e at ≡ faulty n p → reading_from (suc f) s at d ≡ refused n p
   unfolding reading_from
   reads_faulty e to n p h v = rw (h, v, reading_from)
 
@@ -95,8 +93,8 @@ module _ (f : ℕ) (s : List ℕ) (at : ℕ) (d : Description) where
   reads_clear e to h v = rw (h, v, reading_from)
 
 -- By what stands at an offset: nothing, a record that fails, one that is refused, or one that is kept.
-pub by_record : {X : Type 0} (s : List ℕ) (at : ℕ) (d : Description) → (entry_at s at ≡ no_entry → X) → ((n : ℕ) → entry_at s at ≡ failing n → X)
-    → ((e : Entry) (to n p : ℕ) → entry_at s at ≡ stands e to → entry_verdict d e at ≡ faulty n p → X)
+pub by_record : {X : Type 0} (s : List ℕ) (at : ℕ) (d : Description) → (entry_at s at ≡ no_entry → X) → ((n : Refusal) → entry_at s at ≡ failing n → X)
+    → ((e : Entry) (to : ℕ) (n : Refusal) (p : ℕ) → entry_at s at ≡ stands e to → entry_verdict d e at ≡ faulty n p → X)
     → ((e : Entry) (to : ℕ) → entry_at s at ≡ stands e to → entry_verdict d e at ≡ clear → X) → X
 by_record {X} s at d none fails bad kept = by_entry (entry_at s at) refl
   where

@@ -1,4 +1,5 @@
 -- The end of a description, from the balance under construction, is the end that the definition gives. Assumes nothing.
+use Rattle.std.specs.Prelude.{Option, Some, None, Ok}
 use Prim.Native.Nat.{ℕ, suc, ◌≤◌, ◌<◌}
 use mathlib.Core.Path.{◌≡◌, refl, sym, ap, ◌∙◌, subst⁻¹}
 use mathlib.Core.Logic.{◌⊎◌}
@@ -10,10 +11,11 @@ use native.Mathlib.Omega.{arith}
 use borrow.Author.Tests.{eq-eqb, ne_eqb}
 use Rattle.laws.proofs.Cases.{by_eq}
 use Rattle.laws.proofs.Arrays.{get_or_table}
+use Rattle.model.specs.declared.Refusal.{Refusal}
+use Rattle.model.specs.declared.Refusal.TheVariants.{BadDownstream, NegativeFlow}
+use Rattle.model.proofs.Answers.{by_answer}
 use Rattle.model.specs.declared.Unit.{Unit}
 use Rattle.model.specs.declared.Balance.{Balance}
-use Rattle.model.specs.declared.Found.{Found}
-use Rattle.model.specs.declared.Found.TheVariants.{At, Nothing}
 use Rattle.model.specs.Answers.{first}
 use Rattle.model.specs.Fresh.{empty_unit, empty_aquifer}
 use Rattle.model.specs.View.{view_of}
@@ -37,20 +39,20 @@ module _ (d : Description) (good : Good d) where
   well_at k h = get_or_table 32 empty_aquifer (length d.aquifers) (λ k. get_or d.aquifers k empty_aquifer) k h (omega (arith, good.many))
 
 -- A refusal at a unit's number, as an opening.
-opened_fault : (n : ℕ) (f : Found) (o : Outcome) → opened_as (fault_at n f o) ≡ unless_at n f (opened_as o)
-opened_fault n (At j) o = refl
-opened_fault n Nothing o = refl
+opened_fault : (n : Refusal) (f : Option ℕ) (o : Outcome) → opened_as (fault_at n f o) ≡ unless_at n f (opened_as o)
+opened_fault n (Some j) o = refl
+opened_fault n None o = refl
 
 tested_is : (d : Description) (at : ℕ) → Good d
     → tested_with (balance_of d) at
-    ≡ opened_as (fault_at 8 (first (length d.units) (λ j. ltb (length d.units) (get_or d.units j no_unit).downstream))
-    (fault_at 10 (first (length d.units) (λ j. not (non_neg (flow (view_of (balance_of d)) j)))) (read d at)))
+    ≡ opened_as (fault_at BadDownstream (first (length d.units) (λ j. ltb (length d.units) (get_or d.units j no_unit).downstream))
+    (fault_at NegativeFlow (first (length d.units) (λ j. not (non_neg (flow (view_of (balance_of d)) j)))) (read d at)))
 tested_is d at good =
-    (λ i. unless_at 8 (same i) (unless_at 10 (negative (view_of (balance_of d))) (opened_as (read d at))))
-    ∙ ap (unless_at 8 (first (length d.units) (λ j. ltb (length d.units) (get_or d.units j no_unit).downstream)))
-    (sym (opened_fault 10 (negative (view_of (balance_of d))) (read d at)))
-    ∙ sym (opened_fault 8 (first (length d.units) (λ j. ltb (length d.units) (get_or d.units j no_unit).downstream))
-    (fault_at 10 (negative (view_of (balance_of d))) (read d at)))
+    (λ i. unless_at BadDownstream (same i) (unless_at NegativeFlow (negative (view_of (balance_of d))) (opened_as (read d at))))
+    ∙ ap (unless_at BadDownstream (first (length d.units) (λ j. ltb (length d.units) (get_or d.units j no_unit).downstream)))
+    (sym (opened_fault NegativeFlow (negative (view_of (balance_of d))) (read d at)))
+    ∙ sym (opened_fault BadDownstream (first (length d.units) (λ j. ltb (length d.units) (get_or d.units j no_unit).downstream))
+    (fault_at NegativeFlow (negative (view_of (balance_of d))) (read d at)))
   where
     same : missing (view_of (balance_of d)) ≡ first (length d.units) (λ j. ltb (length d.units) (get_or d.units j no_unit).downstream)
     same = first_same (length d.units) _ _ (λ k h. ap (λ (u : Unit). ltb (length d.units) u.downstream) (unit_at_lem d good k h))
@@ -59,13 +61,12 @@ tested_is d at good =
 pub ended_is : (d : Description) (at : ℕ) → Good d
     → ended_with (draft d) (last_sums d) (length d.units) (length d.aquifers) at ≡ opened_as (ended d at)
 ended_is d at good =
-    let c = closing_fault (length d.units) (last_sums d) in
-    by_eq c 0
-    (λ e. rw (eq-eqb c 0 e) (ap (λ (b : Balance). tested_with b at) (full_is d good) ∙ tested_is d at good))
-    (λ e. rw (ne_eqb c 0 e))
+    by_answer (closing_fault (length d.units) (last_sums d))
+    (λ e. rw e (ap (λ (b : Balance). tested_with b at) (full_is d good) ∙ tested_is d at good))
+    (λ r e. rw e)
 
 -- The entries of a closed unit can be added up.
-bounded_is : (d : Description) → Good d → closing_fault (length d.units) (last_sums d) ≡ 0 → Bounded (view_of (balance_of d))
+bounded_is : (d : Description) → Good d → closing_fault (length d.units) (last_sums d) ≡ Ok tt → Bounded (view_of (balance_of d))
 bounded_is d good e =
     record {
       few = good.few;

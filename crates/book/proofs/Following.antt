@@ -1,4 +1,5 @@
 -- The loop of opening follows the definition of reading. Assumes nothing.
+use Rattle.std.specs.Prelude.{Ok, Err}
 use Prim.Native.Nat.{ℕ, suc, ◌+◌, ◌-◌, ◌≤◌, ◌<◌}
 use mathlib.Core.Path.{◌≡◌, refl, sym, ap, ◌∙◌, subst, subst⁻¹}
 use mathlib.Core.Bool.{Bool, cond}
@@ -8,6 +9,7 @@ use lib.Seq.{get_or-set_same}
 use native.Mathlib.Omega.{arith}
 use borrow.Author.Tests.{eq-eqb, ne_eqb}
 use Rattle.laws.proofs.Arrays.{filled_start, filled_table}
+use Rattle.model.specs.declared.Refusal.TheVariants.{Short}
 use Rattle.model.specs.declared.Unit.{Unit}
 use Rattle.model.specs.declared.Aquifer.{Aquifer}
 use Rattle.model.specs.declared.Balance.{Balance}
@@ -18,10 +20,10 @@ use Rattle.record.specs.Described.{no_unit, summed, unit_of}
 use Rattle.record.specs.Entries.{unit_entry, aquifer_entry}
 use Rattle.record.specs.Fault.{closing_fault}
 use Rattle.record.proofs.Summing.{summed_none}
-use Rattle.book.specs.declared.Next.{Next}
-use Rattle.book.specs.declared.Next.TheVariants.{Ends, Refused, Opens, Grows, Adds}
+use Rattle.record.specs.declared.Failure.{Failure}
+use Rattle.book.specs.declared.Next.TheVariants.{Ends, Opens, Grows, Adds}
 use Rattle.book.specs.Reading.{Description, last_sums, with_unit, with_last, with_aquifer, reading_from, reading, opened_as, opened}
-use Rattle.book.specs.Steps.{next}
+use Rattle.book.specs.Steps.{Step, next}
 use Rattle.book.specs.Opening.{put_unit, put_aquifer, stored, draft, refused_with, ended_with, EndReady}
 use Rattle.book.proofs.Entries.{standing, reads_end, reads_clear}
 use Rattle.book.proofs.Growing.{Good, good_start, good_entry, clear_unit, clear_aquifer, draft_unit, draft_last, draft_aquifer, snoc_length, snoc_last}
@@ -63,10 +65,10 @@ reached_start s =
 
 module _ (s : List ℕ) (b : Balance) (unit : UnitRecord) (units aquifers at left : ℕ) (r : Reached s b unit units aquifers at left) (more : 0 < left) where
   -- What the loop finds is what the definition finds.
-  found : (x : Next) → next s at unit units aquifers ≡ x → next s at (last_sums r.description) (length r.description.units) (length r.description.aquifers) ≡ x
+  found : (x : Step) → next s at unit units aquifers ≡ x → next s at (last_sums r.description) (length r.description.units) (length r.description.aquifers) ≡ x
   found x e = sym (λ i. next s at (r.last i) (r.count i) (r.wells i)) ∙ e
 
-  told : (x : Next) → next s at unit units aquifers ≡ x → Told s at r.description x
+  told : (x : Step) → next s at unit units aquifers ≡ x → Told s at r.description x
   told x e = subst (Told s at r.description) (found x e) (next_told s at r.description)
 
   allowed : reading_from (suc (left - 1)) s at r.description ≡ reading s
@@ -75,24 +77,24 @@ module _ (s : List ℕ) (b : Balance) (unit : UnitRecord) (units aquifers at lef
       one : suc (left - 1) ≡ left
       one = omega arith
 
-  pub reached_ends : next s at unit units aquifers ≡ Ends → ended_with b unit units aquifers at ≡ opened s
+  pub reached_ends : next s at unit units aquifers ≡ Ok Ends → ended_with b unit units aquifers at ≡ opened s
   reached_ends e =
       (λ i. ended_with (r.held i) (r.last i) (r.count i) (r.wells i) at)
       ∙ ended_is r.description at r.good
-      ∙ ap opened_as (sym (reads_end (left - 1) s at r.description (told Ends e)) ∙ allowed)
+      ∙ ap opened_as (sym (reads_end (left - 1) s at r.description (told (Ok Ends) e)) ∙ allowed)
 
-  pub reached_refused : (n p : ℕ) → next s at unit units aquifers ≡ Refused n p → refused_with n p ≡ opened s
-  reached_refused n p e = ap opened_as (sym (told (Refused n p) e (left - 1)) ∙ allowed)
+  pub reached_refused : (f : Failure) → next s at unit units aquifers ≡ Err f → refused_with f.refusal f.place ≡ opened s
+  reached_refused f e = ap opened_as (sym (told (Err f) e (left - 1)) ∙ allowed)
 
-  pub opens_closing : (v : UnitRecord) (to : ℕ) → next s at unit units aquifers ≡ Opens v to
-      → closing_fault (length r.description.units) (last_sums r.description) ≡ 0
-  opens_closing v to e = let t = told (Opens v to) e in (clear_unit r.description r.good t.unit at t.passed).0
+  pub opens_closing : (v : UnitRecord) (to : ℕ) → next s at unit units aquifers ≡ Ok (Opens v to)
+      → closing_fault (length r.description.units) (last_sums r.description) ≡ Ok tt
+  opens_closing v to e = let t = told (Ok (Opens v to)) e in (clear_unit r.description r.good t.unit at t.passed).0
 
-  pub reached_opens : (v : UnitRecord) (to : ℕ) → next s at unit units aquifers ≡ Opens v to
+  pub reached_opens : (v : UnitRecord) (to : ℕ) → next s at unit units aquifers ≡ Ok (Opens v to)
       → Reached s (stored b unit units) v (units + 1) aquifers to (left - 1)
   reached_opens v to e =
       let x = r.description in
-      let t = told (Opens v to) e in
+      let t = told (Ok (Opens v to)) e in
       let w = t.unit in
       let stand = standing s at (unit_entry w) to t.found in
       record {
@@ -107,23 +109,23 @@ module _ (s : List ℕ) (b : Balance) (unit : UnitRecord) (units aquifers at lef
       }
 
   -- The first unit: there is none before it to be put in.
-  pub reached_first : units ≡ 0 → (v : UnitRecord) (to : ℕ) → next s at unit units aquifers ≡ Opens v to → Reached s b v 1 aquifers to (left - 1)
+  pub reached_first : units ≡ 0 → (v : UnitRecord) (to : ℕ) → next s at unit units aquifers ≡ Ok (Opens v to) → Reached s b v 1 aquifers to (left - 1)
   reached_first z v to e =
       subst (λ (x : Balance). Reached s x v 1 aquifers to (left - 1)) (ap (λ (t : Bool). cond t b (put_unit b (units - 1) (closed_unit unit))) (eq-eqb units 0 z))
       (subst (λ (n : ℕ). Reached s (stored b unit units) v n aquifers to (left - 1)) (omega arith) (reached_opens v to e))
 
   -- Another unit: the one before it is put in.
-  pub reached_next : (units ≡ 0 → ⊥) → (w : Unit) → w ≡ closed_unit unit → (v : UnitRecord) (to : ℕ) → next s at unit units aquifers ≡ Opens v to
+  pub reached_next : (units ≡ 0 → ⊥) → (w : Unit) → w ≡ closed_unit unit → (v : UnitRecord) (to : ℕ) → next s at unit units aquifers ≡ Ok (Opens v to)
       → Reached s (put_unit b (units - 1) w) v (units + 1) aquifers to (left - 1)
   reached_next z w q v to e =
       subst (λ (x : Balance). Reached s x v (units + 1) aquifers to (left - 1))
       (ap (λ (t : Bool). cond t b (put_unit b (units - 1) (closed_unit unit))) (ne_eqb units 0 z) ∙ ap (put_unit b (units - 1)) (sym q))
       (reached_opens v to e)
 
-  pub reached_grows : (v : UnitRecord) (to : ℕ) → next s at unit units aquifers ≡ Grows v to → Reached s b v units aquifers to (left - 1)
+  pub reached_grows : (v : UnitRecord) (to : ℕ) → next s at unit units aquifers ≡ Ok (Grows v to) → Reached s b v units aquifers to (left - 1)
   reached_grows v to e =
       let x = r.description in
-      let t = told (Grows v to) e in
+      let t = told (Ok (Grows v to)) e in
       let w = t.unit in
       let stand = standing s at t.entry to t.found in
       let some : length x.units - 1 < length x.units = omega (arith, t.after) in
@@ -139,14 +141,14 @@ module _ (s : List ℕ) (b : Balance) (unit : UnitRecord) (units aquifers at lef
         same = ap (reading_from (left - 1) s to) (sym t.kept) ∙ sym (reads_clear (left - 1) s at x t.entry to t.found t.passed) ∙ allowed;
       }
 
-  pub adds_room : (a : Aquifer) (to : ℕ) → next s at unit units aquifers ≡ Adds a to → aquifers < 32
-  adds_room a to e = omega (arith, r.wells, (clear_aquifer r.description r.good a at (told (Adds a to) e).passed).1.room)
+  pub adds_room : (a : Aquifer) (to : ℕ) → next s at unit units aquifers ≡ Ok (Adds a to) → aquifers < 32
+  adds_room a to e = omega (arith, r.wells, (clear_aquifer r.description r.good a at (told (Ok (Adds a to)) e).passed).1.room)
 
-  pub reached_adds : (a : Aquifer) (to : ℕ) → next s at unit units aquifers ≡ Adds a to
+  pub reached_adds : (a : Aquifer) (to : ℕ) → next s at unit units aquifers ≡ Ok (Adds a to)
       → Reached s (put_aquifer b aquifers a) unit units (aquifers + 1) to (left - 1)
   reached_adds a to e =
       let x = r.description in
-      let t = told (Adds a to) e in
+      let t = told (Ok (Adds a to)) e in
       let stand = standing s at (aquifer_entry a) to t.found in
       record {
         description = with_aquifer x a;
@@ -161,7 +163,7 @@ module _ (s : List ℕ) (b : Balance) (unit : UnitRecord) (units aquifers at lef
 
 -- With no records left to allow, reading gives 1.
 pub reached_over : (s : List ℕ) (b : Balance) (unit : UnitRecord) (units aquifers at : ℕ) → Reached s b unit units aquifers at 0
-    → refused_with 1 at ≡ opened s
+    → refused_with Short at ≡ opened s
 unfolding reading_from
 reached_over s b unit units aquifers at r = ap opened_as r.same
 

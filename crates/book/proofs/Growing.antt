@@ -1,4 +1,5 @@
 -- A description grows record by record, and the balance under construction with it. Assumes nothing.
+use Rattle.std.specs.Prelude.{Ok}
 use Prim.Native.Nat.{ℕ, suc, ◌-◌, ◌≤◌, ◌<◌}
 use mathlib.Core.Path.{◌≡◌, refl, sym, ap, subst⁻¹, ◌∙◌}
 use mathlib.Core.List.{List, [], ◌∷◌, ◌++◌}
@@ -65,7 +66,7 @@ good_start =
 
 module _ (d : Description) (good : Good d) where
   -- Once the open unit closes, every unit is closed.
-  pub all_closed : closing_fault (length d.units) (last_sums d) ≡ 0 → (k : ℕ) → k < length d.units → Closed (summed (get_or d.units k no_unit))
+  pub all_closed : closing_fault (length d.units) (last_sums d) ≡ Ok tt → (k : ℕ) → k < length d.units → Closed (summed (get_or d.units k no_unit))
   all_closed e k h =
       by_lt (suc k) (length d.units)
       (λ g. good.closed k g)
@@ -73,7 +74,7 @@ module _ (d : Description) (good : Good d) where
       let q : k ≡ length d.units - 1 = omega arith in
       rw q (closing_clean (length d.units) (last_sums d) e (omega arith) good.sane))
 
-  good_unit : (v : DescribedUnit) → closing_fault (length d.units) (last_sums d) ≡ 0 → UnitClean (length d.units) (length d.aquifers) (summed v)
+  good_unit : (v : DescribedUnit) → closing_fault (length d.units) (last_sums d) ≡ Ok tt → UnitClean (length d.units) (length d.aquifers) (summed v)
       → v.plots ≡ [] → v.years ≡ [] → Good (with_unit d v)
   good_unit v e c p y =
       let us = d.units in
@@ -136,7 +137,7 @@ module _ (d : Description) (good : Good d) where
 
   -- What is known of a UN, an SU, a PR or PD, an AF and an AC that is not refused.
   pub clear_unit : (u : DescribedUnit) (at : ℕ) → entry_verdict d (unit_entry u) at ≡ clear
-      → (closing_fault (length d.units) (last_sums d) ≡ 0) × UnitClean (length d.units) (length d.aquifers) (summed u)
+      → (closing_fault (length d.units) (last_sums d) ≡ Ok tt) × UnitClean (length d.units) (length d.aquifers) (summed u)
   clear_unit u at h =
       let c = cleared _ _ _ h in
       (c.here, unit_clean (length d.units) (length d.aquifers) (summed u) (cleared _ _ _ c.later).here)
@@ -154,7 +155,7 @@ module _ (d : Description) (good : Good d) where
   clear_gauge y at h = gauge_clean _ _ (last_sums d) (gauged_outside y) (cleared _ _ _ h).here
 
   pub clear_aquifer : (a : Aquifer) (at : ℕ) → entry_verdict d (aquifer_entry a) at ≡ clear
-      → (closing_fault (length d.units) (last_sums d) ≡ 0) × AquiferClean (length d.aquifers) a
+      → (closing_fault (length d.units) (last_sums d) ≡ Ok tt) × AquiferClean (length d.aquifers) a
   clear_aquifer a at h =
       let c = cleared _ _ _ h in
       (c.here, aquifer_clean (length d.aquifers) a (cleared _ _ _ c.later).here)

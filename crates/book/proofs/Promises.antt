@@ -1,4 +1,5 @@
 -- What reading and opening promise of every book. Assumes nothing.
+use Rattle.std.specs.Prelude.{Option, Some, None, Ok, Err}
 use Prim.Native.Nat.{ℕ, zero, suc, ◌+◌, ◌-◌, ◌≤◌, ◌<◌}
 use mathlib.Core.Path.{◌≡◌, refl, sym, ap, ◌∙◌, subst, subst⁻¹}
 use mathlib.Core.Logic.{◌↔◌}
@@ -12,13 +13,13 @@ use borrow.Author.Tests.{eq-eqb, ne_eqb, ltb-false, not-false}
 use Rattle.laws.proofs.Cases.{by_eq}
 use Rattle.laws.proofs.Parts.{parts_non_neg}
 use Rattle.laws.proofs.Signs.{below_pos}
+use Rattle.model.specs.declared.Refusal.{Refusal}
+use Rattle.model.specs.declared.Refusal.TheVariants.{Short, BadDownstream, NegativeFlow}
 use Rattle.model.specs.declared.Aquifer.{Aquifer}
-use Rattle.model.specs.declared.Answer.TheVariants.{Accepted, Refused as RefusedBy}
-use Rattle.model.specs.declared.Found.{Found}
-use Rattle.model.specs.declared.Found.TheVariants.{At, Nothing}
 use Rattle.model.specs.Fresh.{fresh_balance}
 use Rattle.model.specs.View.{view_of}
 use Rattle.model.specs.Answers.{first}
+use Rattle.model.proofs.Answers.{by_answer}
 use Rattle.titles.specs.Adds.{titled}
 use Rattle.titles.proofs.Adding.{places_none}
 use Rattle.titles.specs.declared.Slot.{Slot}
@@ -94,9 +95,9 @@ well_is_sound a f =
     }
 
 module _ (d : Description) (good : Good d) where
-  description_sound : closing_fault (length d.units) (last_sums d) ≡ 0
-      → first (length d.units) (λ j. ltb (length d.units) (get_or d.units j no_unit).downstream) ≡ Nothing
-      → first (length d.units) (λ j. not (non_neg (flow (view_of (balance_of d)) j))) ≡ Nothing
+  description_sound : closing_fault (length d.units) (last_sums d) ≡ Ok tt
+      → first (length d.units) (λ j. ltb (length d.units) (get_or d.units j no_unit).downstream) ≡ None
+      → first (length d.units) (λ j. not (non_neg (flow (view_of (balance_of d)) j))) ≡ None
       → sound (view_of (balance_of d)) ≡ true
   description_sound e m f =
       sound_of (view_of (balance_of d))
@@ -117,28 +118,26 @@ module _ (d : Description) (good : Good d) where
       nothing t j x = omega (arith, places_none t j (view_of (balance_of d)).place)
 
 -- What holds of every refusal, and of a description that passes the tests at its end, holds of what its end gives.
-module _ (P : Outcome → Type 0) (fails : (n p : ℕ) → P (refused n p)) where
-  through_fault : (n : ℕ) (f : Found) (rest : Outcome) → (f ≡ Nothing → P rest) → P (fault_at n f rest)
-  through_fault n (At j) rest k = fails n (suc j)
-  through_fault n Nothing rest k = k refl
+module _ (P : Outcome → Type 0) (fails : (n : Refusal) (p : ℕ) → P (refused n p)) where
+  through_fault : (n : Refusal) (f : Option ℕ) (rest : Outcome) → (f ≡ None → P rest) → P (fault_at n f rest)
+  through_fault n (Some j) rest k = fails n (suc j)
+  through_fault n None rest k = k refl
 
   pub through_end : (d : Description) (at : ℕ)
-      → (closing_fault (length d.units) (last_sums d) ≡ 0 → missing d ≡ Nothing → negative (balance_of d) d ≡ Nothing → P (read d at)) → P (ended d at)
+      → (closing_fault (length d.units) (last_sums d) ≡ Ok tt → missing d ≡ None → negative (balance_of d) d ≡ None → P (read d at)) → P (ended d at)
   through_end d at reads =
-      let c = closing_fault (length d.units) (last_sums d) in
-      by_eq c 0
-      (λ e. rw (eq-eqb c 0 e)
-      (through_fault 8 (missing d) _ (λ m. through_fault 10 (negative (balance_of d) d) _ (λ f. reads e m f))))
-      (λ e. rw (ne_eqb c 0 e) (fails c (last_unit d).at))
+      by_answer (closing_fault (length d.units) (last_sums d))
+      (λ e. rw e (through_fault BadDownstream (missing d) _ (λ m. through_fault NegativeFlow (negative (balance_of d) d) _ (λ f. reads e m f))))
+      (λ r e. rw e (fails r (last_unit d).at))
 
 -- What holds of every refusal, and of every description that passes the tests at its end, holds of what reading gives.
-module _ (P : Outcome → Type 0) (fails : (n p : ℕ) → P (refused n p))
-    (reads : (d : Description) → Good d → closing_fault (length d.units) (last_sums d) ≡ 0 → missing d ≡ Nothing → negative (balance_of d) d ≡ Nothing
+module _ (P : Outcome → Type 0) (fails : (n : Refusal) (p : ℕ) → P (refused n p))
+    (reads : (d : Description) → Good d → closing_fault (length d.units) (last_sums d) ≡ Ok tt → missing d ≡ None → negative (balance_of d) d ≡ None
     → (at : ℕ) → P (read d at))
   where
     all_records : (f : ℕ) (s : List ℕ) (at : ℕ) (d : Description) → Good d → P (reading_from f s at d)
     unfolding reading_from
-    all_records zero s at d good = fails 1 at
+    all_records zero s at d good = fails Short at
     all_records (suc f) s at d good =
         by_record s at d
         (λ q. subst⁻¹ P (reads_end f s at d q) (through_end P fails d at (λ e m n. reads d good e m n at)))
@@ -180,16 +179,16 @@ runoff_is_mean s d at e =
 -- What opening a book answers: accepted exactly when reading ends with a description, with its balance and the offset where it ends;
 -- refused, the fresh balance.
 pub record OpensExactly (s : List ℕ) : Type 0 where
-  pub accepted : ((opened s).answer ≡ Accepted) ↔ ((d : Description) × (at : ℕ) × (reading s ≡ read d at))
+  pub accepted : ((opened s).answer ≡ Ok tt) ↔ ((d : Description) × (at : ℕ) × (reading s ≡ read d at))
   pub balance : (d : Description) (at : ℕ) → reading s ≡ read d at → (opened s).balance ≡ balance_of d
   pub place : (d : Description) (at : ℕ) → reading s ≡ read d at → (opened s).place ≡ at
-  pub fresh : (n : ℕ) → (opened s).answer ≡ RefusedBy n → (opened s).balance ≡ fresh_balance
+  pub fresh : (n : Refusal) → (opened s).answer ≡ Err n → (opened s).balance ≡ fresh_balance
 
-accepted_read : (o : Outcome) → (opened_as o).answer ≡ Accepted → (d : Description) × (at : ℕ) × (o ≡ read d at)
+accepted_read : (o : Outcome) → (opened_as o).answer ≡ Ok tt → (d : Description) × (at : ℕ) × (o ≡ read d at)
 accepted_read (read d at) e = (d, at, refl)
 accepted_read (refused n p) e = let z : ◌≡◌ {A = ℕ} 0 1 = cc in absurd (omega arith)
 
-refused_fresh : (o : Outcome) (n : ℕ) → (opened_as o).answer ≡ RefusedBy n → (opened_as o).balance ≡ fresh_balance
+refused_fresh : (o : Outcome) (n : Refusal) → (opened_as o).answer ≡ Err n → (opened_as o).balance ≡ fresh_balance
 refused_fresh (read d at) n e = let z : ◌≡◌ {A = ℕ} 0 1 = cc in absurd (omega arith)
 refused_fresh (refused m p) n e = refl
 

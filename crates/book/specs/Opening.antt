@@ -1,20 +1,20 @@
 -- The balance while a description is being read. Assumes nothing.
-use Rattle.std.specs.Prelude.{ℕ, suc, ◌-◌, ◌≤◌, ◌<◌, ◌≡◌, cond, not, ◌⊎◌, eqb, ltb, length, get_or, set, replicate}
+use Rattle.std.specs.Prelude.{ℕ, suc, ◌-◌, ◌≤◌, ◌<◌, ◌≡◌, cond, not, ◌⊎◌, eqb, ltb, length, get_or, set, replicate, Option, Some, None, Ok, Err, Result}
 use Rattle.std.specs.Int.Signed.{non_neg}
 use Rattle.laws.specs.Table.{table}
+use Rattle.model.specs.declared.Refusal.{Refusal}
+use Rattle.model.specs.declared.Refusal.TheVariants.{BadDownstream, NegativeFlow}
 use Rattle.model.specs.declared.Unit.{Unit}
 use Rattle.model.specs.declared.Aquifer.{Aquifer}
 use Rattle.model.specs.declared.Balance.{Balance}
-use Rattle.model.specs.declared.Answer.TheVariants.{Accepted, Refused}
-use Rattle.model.specs.declared.Found.{Found}
-use Rattle.model.specs.declared.Found.TheVariants.{At, Nothing}
 use Rattle.model.specs.Fresh.{empty_unit, empty_aquifer, empty_place, fresh_balance}
 use Rattle.model.specs.View.{View, view_of}
-use Rattle.model.specs.Answers.{first}
+use Rattle.model.specs.Answers.{Answer, first}
 use Rattle.model.specs.Limits.{unit_limit, aquifer_limit, title_limit, term_limit}
 use Rattle.river.specs.Flow.{downstream, flow, gain, loss}
 use Rattle.river.specs.Limits.{gain_limit}
 use Rattle.record.specs.declared.UnitRecord.{UnitRecord}
+use Rattle.record.specs.declared.Failure.{Failure}
 use Rattle.book.specs.declared.Opened.{Opened}
 use Rattle.record.specs.Record.{closed_unit}
 use Rattle.record.specs.Described.{no_unit, unit_of}
@@ -76,27 +76,36 @@ draft d =
     }
 
 -- A refused opening: the number, its place and the fresh balance.
-abbrev pub refused_with : ℕ → ℕ → Opened
-refused_with n p = record { answer = Refused n; place = p; balance = fresh_balance }
+abbrev pub refused_with : Refusal → ℕ → Opened
+refused_with n p = record { answer = Err n; place = p; balance = fresh_balance }
 
-abbrev pub unless_at : ℕ → Found → Opened → Opened
-unless_at n (At j) rest = refused_with n (suc j)
-unless_at n Nothing rest = rest
+abbrev pub unless_at : Refusal → Option ℕ → Opened → Opened
+unless_at n (Some j) rest = refused_with n (suc j)
+unless_at n None rest = rest
 
 -- The end of a description, from the balance under construction: closing, 8, 10, or accepted.
-abbrev pub missing : View → Found
+abbrev pub missing : View → Option ℕ
 missing v = first v.units (λ j. ltb v.units (downstream v j))
 
-abbrev pub negative : View → Found
+abbrev pub negative : View → Option ℕ
 negative v = first v.units (λ j. not (non_neg (flow v j)))
 
 abbrev pub tested_with : Balance → ℕ → Opened
 tested_with b at =
-    unless_at 8 (missing (view_of b)) (unless_at 10 (negative (view_of b)) (record { answer = Accepted; place = at; balance = b }))
+    unless_at BadDownstream (missing (view_of b)) (unless_at NegativeFlow (negative (view_of b)) (record { answer = Ok tt; place = at; balance = b }))
+
+abbrev pub closed_with : Answer → ℕ → Opened → Opened
+closed_with (Ok u) place rest = rest
+closed_with (Err r) place rest = refused_with r place
+
+-- What is handed back: an opened book, or the fresh balance with the refusal and its place.
+abbrev pub handed_back : Result Opened Failure → Opened
+handed_back (Ok o) = o
+handed_back (Err f) = refused_with f.refusal f.place
 
 abbrev pub ended_with : Balance → UnitRecord → ℕ → ℕ → ℕ → Opened
 ended_with b u n m at =
-    cond (eqb (closing_fault n u) 0) (tested_with (full_of b u n m) at) (refused_with (closing_fault n u) u.at)
+    closed_with (closing_fault n u) u.at (tested_with (full_of b u n m) at)
 
 -- Entries that can be added up, and a tree that drains onward, perhaps past the last unit.
 pub record Bounded (v : View) : Type 0 where
@@ -110,5 +119,5 @@ pub record Bounded (v : View) : Type 0 where
 pub record EndReady (b : Balance) (u : UnitRecord) (n m : ℕ) : Type 0 where
   pub room : n ≤ unit_limit
   pub sane : Sane u
-  pub full : closing_fault n u ≡ 0 → Bounded (view_of (full_of b u n m))
-  pub closed : closing_fault n u ≡ 0 → (n ≡ 0 → ⊥) → Closed u
+  pub full : closing_fault n u ≡ Ok tt → Bounded (view_of (full_of b u n m))
+  pub closed : closing_fault n u ≡ Ok tt → (n ≡ 0 → ⊥) → Closed u

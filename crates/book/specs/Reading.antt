@@ -1,16 +1,16 @@
 -- Reading a description, record by record, and opening it (document 01, "What each operation refuses"; document 02 [1]). Assumes nothing.
-use Rattle.std.specs.Prelude.{ℕ, zero, suc, ◌+◌, ◌-◌, cond, not, List, [], ◌∷◌, ◌++◌, eqb, ltb, length, get_or, set, replicate}
+use Rattle.std.specs.Prelude.{ℕ, zero, suc, ◌+◌, ◌-◌, cond, not, List, [], ◌∷◌, ◌++◌, eqb, ltb, length, get_or, set, replicate, Option, Some, None, Ok, Err}
 use Rattle.std.specs.Int.Signed.{non_neg}
 use Rattle.laws.specs.Table.{table}
+use Rattle.model.specs.declared.Refusal.{Refusal}
+use Rattle.model.specs.declared.Refusal.TheVariants.{Short, BadDownstream, NegativeFlow}
 use Rattle.model.specs.declared.Unit.{Unit}
 use Rattle.model.specs.declared.Aquifer.{Aquifer}
 use Rattle.model.specs.declared.Balance.{Balance}
-use Rattle.model.specs.declared.Found.{Found}
-use Rattle.model.specs.declared.Found.TheVariants.{At, Nothing}
 use Rattle.model.specs.Fresh.{empty_unit, empty_aquifer, empty_place, fresh_balance}
 use Rattle.model.specs.View.{view_of}
 use Rattle.model.specs.Limits.{unit_limit, aquifer_limit, title_limit}
-use Rattle.model.specs.Answers.{none, number, answered, first}
+use Rattle.model.specs.Answers.{Answer, first}
 use Rattle.river.specs.Flow.{flow}
 use Rattle.record.specs.declared.UnitRecord.{UnitRecord}
 use Rattle.record.specs.Described.{DescribedUnit, add_plot, add_year, no_unit, summed, unit_of}
@@ -46,29 +46,33 @@ balance_by unit d =
 abbrev pub balance_of : Description → Balance
 balance_of d = balance_by unit_of d
 
--- The outcome of reading: a description and the offset where it ends, or a refusal's number and place.
+-- The outcome of reading: a description and the offset where it ends, or a refusal and its place.
 pub data Outcome : Type 0 where
   read : Description → ℕ → Outcome
-  refused : ℕ → ℕ → Outcome
+  refused : Refusal → ℕ → Outcome
 
 -- A unit at fault in place of the offset: its number is one more than its index.
-abbrev pub fault_at : ℕ → Found → Outcome → Outcome
-fault_at n (At j) rest = refused n (suc j)
-fault_at n Nothing rest = rest
+abbrev pub fault_at : Refusal → Option ℕ → Outcome → Outcome
+fault_at r (Some j) rest = refused r (suc j)
+fault_at r None rest = rest
 
 -- The lowest-numbered unit whose downstream number is above the last unit, and the one whose flow is negative in a balance.
-abbrev pub missing : Description → Found
+abbrev pub missing : Description → Option ℕ
 missing d = first (length d.units) (λ j. ltb (length d.units) (get_or d.units j no_unit).downstream)
 
-abbrev pub negative : Balance → Description → Found
+abbrev pub negative : Balance → Description → Option ℕ
 negative b d = first (length d.units) (λ j. not (non_neg (flow (view_of b) j)))
+
+-- The open unit's fault, with the offset of its UN mark, or else what follows.
+abbrev pub closed_by : Answer → ℕ → Outcome → Outcome
+closed_by (Ok u) place rest = rest
+closed_by (Err r) place rest = refused r place
 
 -- At the end, after closing: 8 downstream above the last unit, then 10 flow negative in this balance.
 abbrev pub ended_by : Balance → Description → ℕ → Outcome
 ended_by b d at =
-    cond (eqb (closing_fault (length d.units) (last_sums d)) 0)
-    (fault_at 8 (missing d) (fault_at 10 (negative b d) (read d at)))
-    (refused (closing_fault (length d.units) (last_sums d)) (last_unit d).at)
+    closed_by (closing_fault (length d.units) (last_sums d)) (last_unit d).at
+    (fault_at BadDownstream (missing d) (fault_at NegativeFlow (negative b d) (read d at)))
 
 abbrev pub ended : Description → ℕ → Outcome
 ended d at = ended_by (balance_of d) d at
@@ -89,13 +93,14 @@ with_entry d (soil_entry p) = with_last d (add_plot (last_unit d) p)
 with_entry d (year_entry y) = with_last d (add_year (last_unit d) y)
 with_entry d (aquifer_entry a) = with_aquifer d a
 
--- Whether a record is refused: it is not, or under a number with a place.
+-- Whether a record is refused: it is not, or it is with a place.
 pub data Verdict : Type 0 where
   clear : Verdict
-  faulty : ℕ → ℕ → Verdict
+  faulty : Refusal → ℕ → Verdict
 
-abbrev pub unless_faulty : ℕ → ℕ → Verdict → Verdict
-unless_faulty fault place rest = cond (eqb fault 0) rest (faulty fault place)
+abbrev pub unless_faulty : Answer → ℕ → Verdict → Verdict
+unless_faulty (Ok u) place rest = rest
+unless_faulty (Err r) place rest = faulty r place
 
 -- The record at an offset after a description. UN and AC first close the open unit, whose fault carries the offset of its UN mark; every
 -- other fault of a record carries the record's own offset.
@@ -112,7 +117,7 @@ entry_verdict d (aquifer_entry a) at =
 
 -- Reading from an offset on, at most so many records: a record is refused, or kept and the next one read.
 unfoldable pub reading_from : ℕ → List ℕ → ℕ → Description → Outcome
-reading_from zero s at d = refused 1 at
+reading_from zero s at d = refused Short at
 reading_from (suc records) s at d =
     elim (entry_at s at) [
       | no_entry ↦ ended d at
@@ -126,8 +131,8 @@ reading s = reading_from (length s + 1) s 0 (record { units = []; aquifers = [] 
 
 -- Opening a book: the balance and the offset where the description ends, or, refused, a number, its place and the fresh balance.
 abbrev pub opened_by : (Description → Balance) → Outcome → Opened
-opened_by balance (read d at) = record { answer = answered none; place = at; balance = balance d }
-opened_by balance (refused n p) = record { answer = answered (number n); place = p; balance = fresh_balance }
+opened_by balance (read d at) = record { answer = Ok tt; place = at; balance = balance d }
+opened_by balance (refused n p) = record { answer = (Err n); place = p; balance = fresh_balance }
 
 abbrev pub opened_as : Outcome → Opened
 opened_as o = opened_by balance_of o

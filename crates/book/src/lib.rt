@@ -6,12 +6,11 @@ mod step;
 
 pub use opening::read_book;
 
-// What a record does to a description: it ends it, is refused, opens a unit, belongs to the open unit, or adds an aquifer. `to` is the
+// What a record does to a description: it ends it, opens a unit, belongs to the open unit, or adds an aquifer. `to` is the
 // offset of the next record.
 #[derive(Clone, Copy)]
 pub enum Next {
     Ends,
-    Refused { number: u8, place: usize },
     Opens { unit: record::UnitRecord, to: usize },
     Grows { unit: record::UnitRecord, to: usize },
     Adds { aquifer: model::Aquifer, to: usize },

@@ -9,95 +9,69 @@ ghost use Rattle.book.specs.Opening as opening;
 
 use crate::step::next;
 use crate::{Next, Opened};
-use model::{Answer, Balance, Found};
-use record::{UnitRecord, closing_fault, unit_of};
+use model::{Balance, Refusal};
+use record::{Failure, Progress, UnitRecord, closing_fault, located, unit_of};
 
-// A refused opening hands back the fresh balance.
-pub fn refused(number: u8, place: usize) -> Opened
-    ensures { result ≡ opening.refused_with number place }
+// Puts the open unit, if there is one, into the balance.
+fn store(b: &mut Balance, p: &Progress)
+    requires within { p.now.units ≤ unit_limit }
+    requires closed { 0 < p.now.units → Closed p.now.open }
+    ensures { b.new ≡ opening.stored b.old p.now.open p.now.units }
 {
-    Opened {
-        answer: Answer::Refused(number),
-        place,
-        balance: Balance::fresh(),
+    if let Some(last) = p.units.checked_sub(1) {
+        b.units[last] = unit_of(p.open);
     }
-}
-
-// The balance with the open unit, the last of n, put in.
-fn stored(mut b: Balance, u: UnitRecord, n: usize) -> Balance
-    requires n_le_unit_limit { n ≤ unit_limit }
-    requires closed { 0 < n → Closed u }
-    ensures { result ≡ opening.stored b u n }
-{
-    if n == 0 {
-        return b;
-    }
-    let k = n - 1;
-    let unit = unit_of(u);
-    b.units[k] = unit;
-    b
 }
 
 // The lowest-numbered unit whose downstream number is above the last unit's, if there is one.
-fn first_missing(b: Balance) -> Found
-    requires { (view_of b).units ≤ unit_limit }
-    ensures { result ≡ opening.missing (view_of b) }
+fn first_missing(b: &Balance) -> Option<usize>
+    requires { (view_of b.now).units ≤ unit_limit }
+    ensures { result ≡ opening.missing (view_of b.now) }
 {
-    let n = b.unit_count;
-    let mut i = 0;
-    loop {
-        if n <= i {
-            break Found::Nothing;
+    'search: {
+        for i in 0..b.unit_count {
+            if b.unit_count < usize::from(b.units[i].downstream) {
+                break 'search Some(i);
+            }
         }
-        let u = b.units[i];
-        let d = u.downstream as usize;
-        if n < d {
-            break Found::At(i);
-        }
-        i += 1;
+        None
     }
 }
 
-// The balance with n units and m aquifers counted.
-fn counted(mut b: Balance, n: usize, m: usize) -> Balance
-    ensures { result ≡ opening.counted b n m }
-{
-    b.unit_count = n;
-    b.aquifer_count = m;
-    b
-}
-
-// The tests of a whole balance at the end: 8 and 10, with the lowest-numbered unit at fault, or accepted.
-fn tested(b: Balance, at: usize) -> Opened
+// The tests of a whole balance at the end: the lowest-numbered unit with no downstream unit, then the one with a negative flow.
+fn tested(b: Balance, at: usize) -> Result<Opened, Failure>
     requires { opening.Bounded (view_of b) }
-    ensures { result ≡ opening.tested_with b at }
+    ensures { opening.handed_back result ≡ opening.tested_with b at }
 {
-    let missing = first_missing(b);
-    if let Found::At(j) = missing {
-        return refused(8, j + 1);
+    if let Some(j) = first_missing(&b) {
+        return Err(Failure {
+ refusal: Refusal::BadDownstream,
+ place: j + 1,
+ });
     }
-    let negative = river::first_negative(&b.units[..b.unit_count]);
-    if let Found::At(j) = negative {
-        return refused(10, j + 1);
+    if let Some(j) = river::first_negative(&b.units[..b.unit_count]) {
+        return Err(Failure {
+            refusal: Refusal::NegativeFlow,
+            place: j + 1,
+        });
     }
-    Opened {
-        answer: Answer::Accepted,
+    Ok(Opened {
+        answer: Ok(()),
         place: at,
         balance: b,
-    }
+    })
 }
 
 // The end of a description: it closes the open unit, then the whole balance is tested.
-fn ended(b: Balance, u: UnitRecord, n: usize, m: usize, at: usize) -> Opened
-    requires { opening.EndReady b u n m }
-    ensures { result ≡ opening.ended_with b u n m at }
+fn ended(mut b: Balance, p: &Progress, at: usize) -> Result<Opened, Failure>
+    requires { opening.EndReady b p.now.open p.now.units p.now.aquifers }
+    ensures { opening.handed_back result ≡ opening.ended_with b p.now.open p.now.units p.now.aquifers at }
 {
-    let sum = u.sum;
-    let closing = closing_fault(n, u.soils, u.years, sum);
-    if closing != 0 {
-        return refused(closing, u.at);
-    }
-    tested(counted(stored(b, u, n), n, m), at)
+    located(closing_fault(p), p.open.at)?;
+    store(&mut b, p);
+    b.unit_count = p.units;
+    b.aquifer_count = p.aquifers;
+    tested(b, at)
 }
 
 // The sums before the first UN.
@@ -122,50 +96,53 @@ fn no_sums() -> UnitRecord
     }
 }
 
-// Opening a book: its description is read to its end or to the first refusal.
-pub fn read_book(s: &[u8]) -> Opened
-    ensures { result ≡ reading.opened s.now }
+// Reads the description of a book record by record into a balance, to its end or to the first refusal.
+fn read(s: &[u8]) -> Result<Opened, Failure>
+    ensures { opening.handed_back result ≡ reading.opened s.now }
 {
     let mut b = Balance::fresh();
-    let mut unit = no_sums();
-    let mut units = 0;
-    let mut aquifers = 0;
+    let mut p = Progress {
+        units: 0,
+        aquifers: 0,
+        open: no_sums(),
+    };
     let mut at = 0;
-    let mut left = s.len() + 1;
-    while 0 < left {
-        left -= 1;
-        let step = next(s, at, unit, units, aquifers);
-        match step {
-            Next::Ends => {
-                return ended(b, unit, units, aquifers, at);
-            }
-            Next::Refused { number, place } => {
-                return refused(number, place);
-            }
-            Next::Opens { unit: opens, to } => {
-                if units == 0 {
-                    unit = opens;
-                    units = 1;
-                    at = to;
-                    continue;
-                }
-                let last = units - 1;
-                let closed = unit_of(unit);
-                b.units[last] = closed;
-                unit = opens;
-                units += 1;
+    for _ in 0..s.len() + 1 {
+        match next(&p, s, at)? {
+            Next::Ends => return ended(b, &p, at),
+            Next::Opens { unit, to } => {
+                store(&mut b, &p);
+                p.open = unit;
+                p.units += 1;
                 at = to;
             }
-            Next::Grows { unit: grows, to } => {
-                unit = grows;
+            Next::Grows { unit, to } => {
+                p.open = unit;
                 at = to;
             }
             Next::Adds { aquifer, to } => {
-                b.aquifers[aquifers] = aquifer;
-                aquifers += 1;
+                b.aquifers[p.aquifers] = aquifer;
+                p.aquifers += 1;
                 at = to;
             }
         }
     }
-    refused(1, at)
+    Err(Failure {
+ refusal: Refusal::Short,
+ place: at,
+ })
+}
+
+// Opening a book: a refused one hands back the fresh balance.
+pub fn read_book(s: &[u8]) -> Opened
+    ensures { result ≡ reading.opened s.now }
+{
+    match read(s) {
+        Ok(opened) => opened,
+        Err(failure) => Opened {
+            answer: Err(failure.refusal),
+            place: failure.place,
+            balance: Balance::fresh(),
+        },
+    }
 }

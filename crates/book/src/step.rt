@@ -1,205 +1,144 @@
 // One record of a description: what it does.
-ghost use Rattle.std.specs.Prelude.{◌≡◌, ◌+◌, ◌≤◌, length};
+ghost use Rattle.std.specs.Prelude.{◌≡◌, ◌+◌, ◌-◌, ◌≤◌, length, ltb};
+ghost use Rattle.model.specs.declared.Refusal.TheVariants.{Short};
+ghost use Rattle.model.specs.Answers.{accepted, refuse};
+ghost use Rattle.record.specs.Calls.{located};
 ghost use Rattle.record.specs.Fault.{Sane};
 ghost use Rattle.book.specs.Steps as steps;
 
 use crate::Next;
+use model::Refusal;
 use record::{
-    Mark, UnitRecord, aquifer_fault, aquifer_record, bits8, bits16, bits32, closing_fault,
-    gauge_fault, mark_of, rain_fault, signed_bits32, soil_fault, unit_fault, unit_record,
+    Failure, Mark, Progress, aquifer_fault, aquifer_record, bits8, bits16, bits32, closing_fault,
+    gauge_fault, located, mark_of, rain_fault, signed_bits32, soil_fault, unit_fault, unit_record,
     with_soil, with_year, year_at,
 };
 use runoff::{Measure, Rain, Soils};
 
-// A UN closes the open unit, then is refused or opens the next.
-fn unit_step(s: &[u8], at: usize, u: UnitRecord, units: usize, aquifers: usize) -> Next
-    requires at_in_bounds { at ≤ length s.now }
-    requires sane { Sane u }
-    ensures { result ≡ steps.unit_step s.now at u units aquifers }
+// Whether so many bytes are left at an offset.
+fn whole(s: &[u8], at: usize, size: usize) -> Result<(), Failure>
+    requires { at ≤ length s.now }
+    ensures { result ≡ located (refuse Short (ltb (length s.now - at) size) accepted) at }
 {
-    if s.len() - at < 31 {
-        return Next::Refused {
-            number: 1,
-            place: at,
-        };
+    if s.len() - at < size {
+        return located(Err(Refusal::Short), at);
     }
-    let sum = u.sum;
-    let closing = closing_fault(units, u.soils, u.years, sum);
-    if closing != 0 {
-        return Next::Refused {
-            number: closing,
-            place: u.at,
-        };
-    }
+    Ok(())
+}
+
+// A UN closes the open unit, then opens the next.
+fn unit_step(p: &Progress, s: &[u8], at: usize) -> Result<Next, Failure>
+    requires at_in_bounds { at ≤ length s.now }
+    requires sane { Sane p.now.open }
+    ensures { result ≡ steps.unit_step s.now at p.now.open p.now.units p.now.aquifers }
+{
+    whole(s, at, 31)?;
+    located(closing_fault(p), p.open.at)?;
     let unit = unit_record(s, at);
-    let fault = unit_fault(units, aquifers, unit);
-    if fault != 0 {
-        return Next::Refused {
-            number: fault,
-            place: at,
-        };
-    }
-    Next::Opens { unit, to: at + 31 }
+    located(unit_fault(p, unit), at)?;
+    Ok(Next::Opens { unit, to: at + 31 })
 }
 
 // An SU belongs to the open unit.
-fn soil_step(s: &[u8], at: usize, u: UnitRecord, units: usize, aquifers: usize) -> Next
+fn soil_step(p: &Progress, s: &[u8], at: usize) -> Result<Next, Failure>
     requires at_in_bounds { at ≤ length s.now }
-    requires sane { Sane u }
-    ensures { result ≡ steps.soil_step s.now at u units aquifers }
+    requires sane { Sane p.now.open }
+    ensures { result ≡ steps.soil_step s.now at p.now.open p.now.units p.now.aquifers }
 {
-    if s.len() - at < 8 {
-        return Next::Refused {
-            number: 1,
-            place: at,
-        };
-    }
+    whole(s, at, 8)?;
     let cover = bits8(s, at + 2);
     let soil = bits8(s, at + 3);
     let hectares = bits32(s, at + 4);
-    let fault = soil_fault(units, aquifers, u, cover, soil, hectares);
-    if fault != 0 {
-        return Next::Refused {
-            number: fault,
-            place: at,
-        };
-    }
-    Next::Grows {
-        unit: with_soil(u, cover, soil, hectares),
+    located(soil_fault(p, cover, soil, hectares), at)?;
+    Ok(Next::Grows {
+        unit: with_soil(p.open, cover, soil, hectares),
         to: at + 8,
-    }
+    })
 }
 
 // A PR or PD belongs to the open unit.
-fn rain_step(
-    s: &[u8],
-    at: usize,
-    u: UnitRecord,
-    units: usize,
-    aquifers: usize,
-    measure: Measure,
-) -> Next
+fn rain_step(p: &Progress, s: &[u8], at: usize, measure: Measure) -> Result<Next, Failure>
     requires at_in_bounds { at ≤ length s.now }
-    requires sane { Sane u }
-    ensures { result ≡ steps.rain_step measure s.now at u units aquifers }
+    requires sane { Sane p.now.open }
+    ensures { result ≡ steps.rain_step measure s.now at p.now.open p.now.units p.now.aquifers }
 {
-    if s.len() - at < 4 {
-        return Next::Refused {
-            number: 1,
-            place: at,
-        };
-    }
+    whole(s, at, 4)?;
     let rain = Rain {
         measure,
         depth: bits16(s, at + 2),
     };
     let tenths = rain.in_tenths();
-    let fault = rain_fault(units, aquifers, u, tenths);
-    if fault != 0 {
-        return Next::Refused {
-            number: fault,
-            place: at,
-        };
-    }
+    located(rain_fault(p, tenths), at)?;
     let soils = Soils {
-        area: u.hectares,
-        weighted: u.weighted,
+        area: p.open.hectares,
+        weighted: p.open.weighted,
     };
     let year = soils.rain_year(tenths);
-    Next::Grows {
-        unit: with_year(u, laws::difference(year, 0)),
+    Ok(Next::Grows {
+        unit: with_year(p.open, laws::difference(year, 0)),
         to: at + 4,
-    }
+    })
 }
 
 // An AF belongs to the open unit.
-fn gauge_step(s: &[u8], at: usize, u: UnitRecord, units: usize, aquifers: usize) -> Next
+fn gauge_step(p: &Progress, s: &[u8], at: usize) -> Result<Next, Failure>
     requires at_in_bounds { at ≤ length s.now }
-    requires sane { Sane u }
-    ensures { result ≡ steps.gauge_step s.now at u units aquifers }
+    requires sane { Sane p.now.open }
+    ensures { result ≡ steps.gauge_step s.now at p.now.open p.now.units p.now.aquifers }
 {
-    if s.len() - at < 34 {
-        return Next::Refused {
-            number: 1,
-            place: at,
-        };
-    }
+    whole(s, at, 34)?;
     let storage = signed_bits32(s, at + 30);
-    let fault = gauge_fault(units, aquifers, u, s, at, storage);
-    if fault != 0 {
-        return Next::Refused {
-            number: fault,
-            place: at,
-        };
-    }
-    Next::Grows {
-        unit: with_year(u, year_at(s, at, storage)),
+    located(gauge_fault(p, s, at, storage), at)?;
+    Ok(Next::Grows {
+        unit: with_year(p.open, year_at(s, at, storage)),
         to: at + 34,
-    }
+    })
 }
 
-// An AC closes the open unit, then is refused or adds an aquifer.
-fn aquifer_step(s: &[u8], at: usize, u: UnitRecord, units: usize, aquifers: usize) -> Next
+// An AC closes the open unit, then adds an aquifer.
+fn aquifer_step(p: &Progress, s: &[u8], at: usize) -> Result<Next, Failure>
     requires at_in_bounds { at ≤ length s.now }
-    requires sane { Sane u }
-    ensures { result ≡ steps.aquifer_step s.now at u units aquifers }
+    requires sane { Sane p.now.open }
+    ensures { result ≡ steps.aquifer_step s.now at p.now.open p.now.units p.now.aquifers }
 {
-    if s.len() - at < 22 {
-        return Next::Refused {
-            number: 1,
-            place: at,
-        };
-    }
-    let sum = u.sum;
-    let closing = closing_fault(units, u.soils, u.years, sum);
-    if closing != 0 {
-        return Next::Refused {
-            number: closing,
-            place: u.at,
-        };
-    }
+    whole(s, at, 22)?;
+    located(closing_fault(p), p.open.at)?;
     let aquifer = aquifer_record(s, at);
-    let fault = aquifer_fault(aquifers, aquifer);
-    if fault != 0 {
-        return Next::Refused {
-            number: fault,
-            place: at,
-        };
-    }
-    Next::Adds {
+    located(aquifer_fault(p, aquifer), at)?;
+    Ok(Next::Adds {
         aquifer,
         to: at + 22,
-    }
+    })
 }
 
 // What stands at an offset does to the description so far.
-pub fn next(s: &[u8], at: usize, u: UnitRecord, units: usize, aquifers: usize) -> Next
+#[tactic(auto, unfolding(crate::specs::Steps::next))]
+pub fn next(p: &Progress, s: &[u8], at: usize) -> Result<Next, Failure>
     requires at_in_bounds { at ≤ length s.now }
-    requires sane { Sane u }
-    ensures { result ≡ steps.next s.now at u units aquifers }
+    requires sane { Sane p.now.open }
+    ensures { result ≡ steps.next s.now at p.now.open p.now.units p.now.aquifers }
 {
     let left = s.len() - at;
     if left == 0 {
-        return Next::Ends;
+        return Ok(Next::Ends);
     }
     if left == 1 {
-        return Next::Refused {
-            number: 1,
-            place: at,
-        };
+        return Err(Failure {
+ refusal: Refusal::Short,
+ place: at,
+ });
     }
-    let mark = mark_of(s[at], s[at + 1]);
-    match mark {
-        Mark::Un => unit_step(s, at, u, units, aquifers),
-        Mark::Su => soil_step(s, at, u, units, aquifers),
-        Mark::Pr => rain_step(s, at, u, units, aquifers, Measure::Millimetres),
-        Mark::Pd => rain_step(s, at, u, units, aquifers, Measure::Tenths),
-        Mark::Af => gauge_step(s, at, u, units, aquifers),
-        Mark::Ac => aquifer_step(s, at, u, units, aquifers),
-        Mark::Call => Next::Ends,
-        Mark::Unknown => Next::Refused {
-            number: 2,
-            place: at,
-        },
+    match mark_of(s[at], s[at + 1]) {
+        Some(Mark::Un) => unit_step(p, s, at),
+        Some(Mark::Su) => soil_step(p, s, at),
+        Some(Mark::Pr) => rain_step(p, s, at, Measure::Millimetres),
+        Some(Mark::Pd) => rain_step(p, s, at, Measure::Tenths),
+        Some(Mark::Af) => gauge_step(p, s, at),
+        Some(Mark::Ac) => aquifer_step(p, s, at),
+        Some(Mark::Call) => Ok(Next::Ends),
+        None => Err(Failure {
+ refusal: Refusal::UnknownMark,
+ place: at,
+ }),
     }
 }

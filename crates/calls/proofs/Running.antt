@@ -1,11 +1,11 @@
 -- One record of the calls more, by what stands there. Assumes nothing.
+use Rattle.std.specs.Prelude.{Err}
 use Prim.Native.Nat.{ℕ, zero, suc, ◌-◌, ◌≤◌, ◌<◌}
 use mathlib.Core.Path.{◌≡◌, refl, sym, ap, ◌∙◌}
 use mathlib.Core.List.{List}
 use native.Mathlib.Numerals.{sub-one}
 use native.Mathlib.Omega.{arith}
 use Rattle.model.specs.declared.Call.{Call}
-use Rattle.model.specs.declared.Answer.TheVariants.{Refused}
 use Rattle.model.specs.declared.Balance.{Balance}
 use Rattle.record.specs.declared.CallAt.TheVariants.{End, Fails, Asks}
 use Rattle.record.specs.declared.Ending.{Ending}
@@ -59,7 +59,7 @@ module _ (s : List ℕ) (all : Ran) where
 
   -- A refused call leaves the balance as it is.
   pub turn_refused : (left at : ℕ) (b : Balance) (c : Call) (to k : ℕ) → 0 < left → rest left s at b ≡ all → call_at s at ≡ Asks c to
-      → (call_reply b c).answer ≡ Refused k → rest (left - 1) s to b ≡ all
+      → (call_reply b c).answer ≡ Err k → rest (left - 1) s to b ≡ all
   turn_refused left at b c to k h e q a =
       ap (λ (x : Balance). rest (left - 1) s to x) (sym (refused_keeps b c k a).0) ∙ turn_asks left at b c to h e q
 

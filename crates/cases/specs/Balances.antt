@@ -1,9 +1,10 @@
 -- The balances that the printed book goes through, written out: the one that it opens and those that its calls leave. Assumes nothing.
-use Rattle.std.specs.Prelude.{ℕ, ◌≡◌, refl, true, false, List, [], ◌∷◌, replicate, negsuc}
+use Rattle.std.specs.Prelude.{ℕ, ◌≡◌, refl, true, false, List, [], ◌∷◌, replicate, negsuc, Ok, Err}
 use Rattle.std.proofs.Common.{sym, ap, subst, ◌∙◌, arith}
 use Rattle.laws.specs.Sum.{sum_of, every}
 use Rattle.laws.specs.Gather.{gather, gather_to}
 use Rattle.laws.specs.Table.{table, tabulate, indexed}
+use Rattle.model.specs.declared.Refusal.TheVariants.{NoWater, ReceiverBelow}
 use Rattle.model.specs.declared.Unit.{Unit}
 use Rattle.model.specs.declared.Place.{Place}
 use Rattle.model.specs.declared.Title.{Title}
@@ -11,7 +12,6 @@ use Rattle.model.specs.declared.Title.TheVariants.{UnitWithdrawal, AquiferWithdr
 use Rattle.model.specs.declared.Call.{Call}
 use Rattle.model.specs.declared.Call.TheVariants.{Grant, Cancel}
 use Rattle.model.specs.declared.Balance.{Balance}
-use Rattle.model.specs.declared.Answer.TheVariants.{Accepted, Refused}
 use Rattle.model.specs.Fresh.{empty_unit, empty_aquifer, empty_place}
 use Rattle.model.specs.Entries.{place_of}
 use Rattle.model.specs.View.{view_of}
@@ -89,7 +89,7 @@ unfolding book_balance
 last_balance = book_balance (second_with 0 0) (third_with 5000 200 400) 1500 (place_of first_title true ∷ place_of fourth_title true ∷ replicate 254 empty_place) 2
 
 -- Opening the printed book gives the first of them, which is sound as every balance that is opened.
-pub printed_opens : opened printed_book ≡ record { answer = Accepted; place = 379; balance = printed_balance }
+pub printed_opens : opened printed_book ≡ record { answer = Ok tt; place = 379; balance = printed_balance }
 unfolding printed_book printed_description printed_calls printed_balance reading_from entry_at table tabulate first_from flow gather gather_to sum_of years_sum area_of weighted_of rain_year coefficient coefficients rounded
 printed_opens = refl
 
@@ -101,7 +101,7 @@ first_water : no_water (granted (view_of printed_balance) first_title) first_tit
 unfolding printed_balance flow gather gather_to sum_of committed committed_to every outlet outlet_to
 first_water = refl
 
-pub first_reply : grant_reply printed_balance first_title ≡ record { answer = Accepted; number = 1; balance = first_balance }
+pub first_reply : grant_reply printed_balance first_title ≡ record { answer = Ok tt; number = 1; balance = first_balance }
 unfolding printed_balance first_balance indexed
 first_reply = sym (reply_given printed_balance first_title printed_sound refl first_water)
 
@@ -114,16 +114,16 @@ second_water : no_water (granted (view_of first_balance) second_title) second_ti
 unfolding first_balance flow gather gather_to sum_of committed committed_to every outlet outlet_to
 second_water = refl
 
-pub second_reply : grant_reply first_balance second_title ≡ record { answer = Refused 17; number = 0; balance = first_balance }
+pub second_reply : grant_reply first_balance second_title ≡ record { answer = Err NoWater; number = 0; balance = first_balance }
 unfolding first_balance
 second_reply = sym (reply_dry first_balance second_title first_sound refl second_water)
 
-pub third_reply : grant_reply first_balance third_title ≡ record { answer = Refused 17; number = 0; balance = first_balance }
+pub third_reply : grant_reply first_balance third_title ≡ record { answer = Err NoWater; number = 0; balance = first_balance }
 unfolding first_balance
 third_reply = sym (reply_dry first_balance third_title first_sound refl refl)
 
 -- Call 4 is given: the aquifer's availability falls to 0.
-pub fourth_reply : grant_reply first_balance fourth_title ≡ record { answer = Accepted; number = 2; balance = last_balance }
+pub fourth_reply : grant_reply first_balance fourth_title ≡ record { answer = Ok tt; number = 2; balance = last_balance }
 unfolding first_balance last_balance indexed
 fourth_reply = sym (reply_given first_balance fourth_title first_sound refl refl)
 
@@ -144,7 +144,7 @@ unfolding printed_book printed_description printed_calls ending_from call_at
 ending_is = refl
 
 -- A transfer from unit 1 to unit 3, which lies below it, is refused.
-pub downstream_reply : grant_reply printed_balance (UnitTransfer 1 3 100) ≡ record { answer = Refused 18; number = 0; balance = printed_balance }
+pub downstream_reply : grant_reply printed_balance (UnitTransfer 1 3 100) ≡ record { answer = Err ReceiverBelow; number = 0; balance = printed_balance }
 unfolding printed_balance lies_below below_to
 downstream_reply = sym (reply_early printed_balance (UnitTransfer 1 3 100) 18 printed_sound refl (omega arith))
 
@@ -172,7 +172,7 @@ seven_water : no_water (granted (view_of printed_balance) seven_title) seven_tit
 unfolding printed_balance flow gather gather_to sum_of committed committed_to every outlet outlet_to
 seven_water = refl
 
-seven_reply : grant_reply printed_balance seven_title ≡ record { answer = Accepted; number = 1; balance = seven_balance }
+seven_reply : grant_reply printed_balance seven_title ≡ record { answer = Ok tt; number = 1; balance = seven_balance }
 unfolding printed_balance seven_balance indexed
 seven_reply = sym (reply_given printed_balance seven_title printed_sound refl seven_water)
 
@@ -184,7 +184,7 @@ eight_water : no_water (granted (view_of seven_balance) eight_title) eight_title
 unfolding seven_balance flow gather gather_to sum_of committed committed_to every outlet outlet_to
 eight_water = refl
 
-eight_reply : grant_reply seven_balance eight_title ≡ record { answer = Accepted; number = 2; balance = eight_balance }
+eight_reply : grant_reply seven_balance eight_title ≡ record { answer = Ok tt; number = 2; balance = eight_balance }
 unfolding seven_balance eight_balance indexed
 eight_reply = sym (reply_given seven_balance eight_title seven_sound refl eight_water)
 
@@ -196,7 +196,7 @@ eight_released : flowing (cancelled (view_of eight_balance) 2) ≡ true
 unfolding eight_balance flow gather gather_to sum_of every
 eight_released = refl
 
-cancelled_reply : cancel_reply eight_balance 2 ≡ record { answer = Accepted; number = 2; balance = cancelled_balance }
+cancelled_reply : cancel_reply eight_balance 2 ≡ record { answer = Ok tt; number = 2; balance = cancelled_balance }
 unfolding eight_balance cancelled_balance indexed
 cancelled_reply = sym (reply_cancelled eight_balance 2 eight_sound refl eight_released)
 

@@ -1,14 +1,14 @@
 -- The cases of document 01 ("Cases for the proof table"), two of rain in tenths and two of well water that comes back as one group of
 -- theorems of the definitions. Assumes nothing.
-use Rattle.std.specs.Prelude.{ℕ, ◌+◌, ◌-◌, ◌*◌, ◌/◌, ◌≡◌, refl, true, List, [], ◌∷◌, length, replicate, pos}
+use Rattle.std.specs.Prelude.{ℕ, ◌+◌, ◌-◌, ◌*◌, ◌/◌, ◌≡◌, refl, true, List, [], ◌∷◌, length, replicate, pos, Ok, Err}
 use Rattle.std.proofs.Common.{sym, ap, ◌∙◌}
 use Rattle.laws.specs.Sum.{sum_of}
 use Rattle.laws.specs.Gather.{gather, gather_to}
 use Rattle.laws.specs.Table.{table, tabulate}
+use Rattle.model.specs.declared.Refusal.TheVariants.{ReceiverBelow}
 use Rattle.model.specs.declared.Title.TheVariants.{UnitWithdrawal, AquiferWithdrawal, UnitTransfer, AquiferTransfer, ReturningWithdrawal}
 use Rattle.model.specs.declared.Call.TheVariants.{Grant, Cancel}
 use Rattle.model.specs.declared.Balance.{Balance}
-use Rattle.model.specs.declared.Answer.TheVariants.{Accepted, Refused}
 use Rattle.model.specs.View.{View, view_of}
 use Rattle.runoff.specs.Soil.{coefficient, coefficients}
 use Rattle.runoff.specs.Year.{in_tenths, rain_year, rain_parts}
@@ -65,7 +65,7 @@ printed_view = view_of (opened printed_book).balance
 abbrev pub table_with : UnitFigures → UnitFigures → UnitFigures → AquiferFigures → Figures
 table_with first second third well =
     record {
-      answer = Accepted;
+      answer = Ok tt;
       units = first ∷ second ∷ third ∷ replicate 61 no_unit_figures;
       aquifers = well ∷ replicate 31 no_aquifer_figures;
     }
@@ -109,7 +109,7 @@ pub record CasesHold : Type 0 where
   pub gauged : opened (gauged_book gauges) ≡ opens_one 711 760
   -- (f) the printed book before any call: it is accepted, its description ends where the calls begin, and its figures are
   -- those of the table.
-  pub f_accepted : (opened printed_book).answer ≡ Accepted
+  pub f_accepted : (opened printed_book).answer ≡ Ok tt
   pub f_place : (opened printed_book).place ≡ length printed_description
   pub f : figures_reply printed_view ≡ before_calls
   -- Unit 3's demand is 4000. What its contributors get sums to it; each share floored alone would lose 1.
@@ -132,7 +132,7 @@ pub record CasesHold : Type 0 where
   -- A transfer from unit 1 to unit 3, which lies below it, is refused.
   pub transfer_downstream :
       grant_reply (opened printed_book).balance (UnitTransfer 1 3 100)
-      ≡ record { answer = Refused 18; number = 0; balance = (opened printed_book).balance }
+      ≡ record { answer = Err ReceiverBelow; number = 0; balance = (opened printed_book).balance }
   -- Withdrawals of 7 and 8 for agriculture return 1 each; with the second cancelled 1 is left. Worked from their sum, which returns 3, the
   -- second's return would be 2 and none would be left.
   pub cancelled_return :
@@ -234,7 +234,7 @@ figures_after = figures_are (view_of first_balance) first_sound refl refl ∙ ta
 
 -- A refused call.
 abbrev refused_reply : ℕ → Balance → Reply
-refused_reply n b = record { answer = Refused n; number = 0; balance = b }
+refused_reply n b = record { answer = Err n; number = 0; balance = b }
 
 returns_left : ((view_of cancelled_balance).unit 2).returns ≡ 1
 unfolding cancelled_balance

@@ -1,11 +1,10 @@
 -- The lines that are printed for the printed book, and for its description with other calls. Assumes nothing.
-use Rattle.std.specs.Prelude.{ℕ, suc, ◌≤◌, ◌≡◌, refl, List, [], ◌∷◌, ◌++◌, length}
+use Rattle.std.specs.Prelude.{ℕ, suc, ◌≤◌, ◌≡◌, refl, List, [], ◌∷◌, ◌++◌, length, Ok}
 use Rattle.std.proofs.Common.{sym, ap, ◌∙◌, arith}
 use Rattle.laws.specs.Sum.{sum_of}
 use Rattle.laws.specs.Gather.{gather, gather_to}
 use Rattle.model.specs.declared.Call.{Call}
 use Rattle.model.specs.declared.Call.TheVariants.{Grant, Cancel}
-use Rattle.model.specs.declared.Answer.TheVariants.{Accepted}
 use Rattle.model.specs.declared.Balance.{Balance}
 use Rattle.model.specs.View.{view_of}
 use Rattle.river.specs.Flow.{flow}
@@ -51,7 +50,7 @@ after_first = (runs_more {k = 1} (Grant first_title) first_reply runs_none).leav
 
 -- What is printed for a book that opens the printed balance: the lines of its calls, then the table of the balance that they leave.
 book_printed : (s : List ℕ) (cs : List Call) (text : List ℕ) (new : Balance) → length s ≤ 65536
-    → opened s ≡ record { answer = Accepted; place = 379; balance = printed_balance } → calls_of s 379 ≡ cs → ending_of s 379 ≡ Finished
+    → opened s ≡ record { answer = Ok tt; place = 379; balance = printed_balance } → calls_of s 379 ≡ cs → ending_of s 379 ≡ Finished
     → Runs 1 printed_balance cs text new → printed s ≡ text ++ table_text (view_of new)
 book_printed s cs text new h opens asks ends ran =
     sym (printed_accepted s h (ap (λ (o : Opened). o.answer) opens))

@@ -1,10 +1,9 @@
 -- Books of one unit, and the balances that they open. Assumes nothing.
-use Rattle.std.specs.Prelude.{ℕ, ◌≡◌, refl, List, [], ◌∷◌, ◌++◌, map, replicate, ℤ, pos, negsuc}
+use Rattle.std.specs.Prelude.{ℕ, ◌≡◌, refl, List, [], ◌∷◌, ◌++◌, map, replicate, ℤ, pos, negsuc, Ok}
 use Rattle.laws.specs.Sum.{sum_of}
 use Rattle.laws.specs.Gather.{gather, gather_to}
 use Rattle.laws.specs.Table.{table, tabulate}
 use Rattle.model.specs.declared.Unit.{Unit}
-use Rattle.model.specs.declared.Answer.TheVariants.{Accepted}
 use Rattle.model.specs.Fresh.{empty_unit, empty_aquifer, empty_place}
 use Rattle.model.specs.Answers.{first_from}
 use Rattle.runoff.specs.Soil.{coefficient, coefficients}
@@ -119,7 +118,7 @@ unit_with downstream extraction imports returns commitment runoff =
 abbrev pub opens_one : ℕ → ℕ → Opened
 opens_one size runoff =
     record {
-      answer = Accepted;
+      answer = Ok tt;
       place = size;
       balance =
           record {

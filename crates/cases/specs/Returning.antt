@@ -1,15 +1,15 @@
 -- The printed book with other calls, of well water that comes back (document 02 [2]), and the balances that they leave. Assumes nothing.
-use Rattle.std.specs.Prelude.{◌≡◌, refl, true, false, List, [], ◌∷◌, replicate}
+use Rattle.std.specs.Prelude.{◌≡◌, refl, true, false, List, [], ◌∷◌, replicate, Ok, Err}
 use Rattle.std.proofs.Common.{sym}
 use Rattle.laws.specs.Sum.{sum_of, every}
 use Rattle.laws.specs.Gather.{gather, gather_to}
 use Rattle.laws.specs.Table.{table, tabulate, indexed}
+use Rattle.model.specs.declared.Refusal.TheVariants.{NoWater, FlowNeeded}
 use Rattle.model.specs.declared.Title.{Title}
 use Rattle.model.specs.declared.Title.TheVariants.{UnitWithdrawal, ReturningWithdrawal}
 use Rattle.model.specs.declared.Call.{Call}
 use Rattle.model.specs.declared.Call.TheVariants.{Grant, Cancel}
 use Rattle.model.specs.declared.Balance.{Balance}
-use Rattle.model.specs.declared.Answer.TheVariants.{Accepted, Refused}
 use Rattle.model.specs.Fresh.{empty_place}
 use Rattle.model.specs.Entries.{place_of}
 use Rattle.model.specs.View.{view_of}
@@ -68,7 +68,7 @@ unfolding book_balance
 released_balance = book_balance (second_with 0 0) (third_with 3000 0 0) 1300 (place_of town_title false ∷ replicate 255 empty_place) 1
 
 -- What the book opens, the calls that stand in it, and that it ends with them.
-pub returning_opens : opened returning_book ≡ record { answer = Accepted; place = 379; balance = printed_balance }
+pub returning_opens : opened returning_book ≡ record { answer = Ok tt; place = 379; balance = printed_balance }
 unfolding returning_book printed_description returning_calls printed_balance reading_from entry_at table tabulate first_from flow gather gather_to sum_of years_sum area_of weighted_of rain_year coefficient coefficients rounded
 returning_opens = refl
 
@@ -81,7 +81,7 @@ unfolding returning_book printed_description returning_calls ending_from call_at
 returning_ends = refl
 
 -- The same of the book whose title is cancelled.
-pub released_opens : opened released_book ≡ record { answer = Accepted; place = 379; balance = printed_balance }
+pub released_opens : opened released_book ≡ record { answer = Ok tt; place = 379; balance = printed_balance }
 unfolding released_book printed_description released_calls printed_balance reading_from entry_at table tabulate first_from flow gather gather_to sum_of years_sum area_of weighted_of rain_year coefficient coefficients rounded
 released_opens = refl
 
@@ -94,7 +94,7 @@ unfolding released_book printed_description released_calls ending_from call_at
 released_ends = refl
 
 -- The town's title is given: the aquifer's availability falls to 0.
-pub town_reply : grant_reply printed_balance town_title ≡ record { answer = Accepted; number = 1; balance = town_balance }
+pub town_reply : grant_reply printed_balance town_title ≡ record { answer = Ok tt; number = 1; balance = town_balance }
 unfolding printed_balance town_balance indexed
 town_reply = sym (reply_given printed_balance town_title printed_sound refl refl)
 
@@ -103,7 +103,7 @@ unfolding sound town_balance flow gather gather_to sum_of every
 town_sound = refl
 
 -- The pond's title is refused: the aquifer would be short, though unit 2 gains what it loses.
-pub more_reply : grant_reply town_balance more_title ≡ record { answer = Refused 17; number = 0; balance = town_balance }
+pub more_reply : grant_reply town_balance more_title ≡ record { answer = Err NoWater; number = 0; balance = town_balance }
 unfolding town_balance
 more_reply = sym (reply_dry town_balance more_title town_sound refl refl)
 
@@ -112,7 +112,7 @@ use_water : no_water (granted (view_of town_balance) use_title) use_title ≡ fa
 unfolding town_balance flow gather gather_to sum_of committed committed_to every outlet outlet_to
 use_water = refl
 
-pub use_reply : grant_reply town_balance use_title ≡ record { answer = Accepted; number = 2; balance = used_balance }
+pub use_reply : grant_reply town_balance use_title ≡ record { answer = Ok tt; number = 2; balance = used_balance }
 unfolding town_balance used_balance indexed
 use_reply = sym (reply_given town_balance use_title town_sound refl use_water)
 
@@ -125,7 +125,7 @@ use_needs : flowing (cancelled (view_of used_balance) 1) ≡ false
 unfolding used_balance flow gather gather_to sum_of every
 use_needs = refl
 
-pub needed_reply : cancel_reply used_balance 1 ≡ record { answer = Refused 20; number = 0; balance = used_balance }
+pub needed_reply : cancel_reply used_balance 1 ≡ record { answer = Err FlowNeeded; number = 0; balance = used_balance }
 unfolding used_balance
 needed_reply = sym (reply_needed used_balance 1 used_sound refl use_needs)
 
@@ -134,7 +134,7 @@ town_released : flowing (cancelled (view_of town_balance) 1) ≡ true
 unfolding town_balance flow gather gather_to sum_of every
 town_released = refl
 
-pub released_reply : cancel_reply town_balance 1 ≡ record { answer = Accepted; number = 1; balance = released_balance }
+pub released_reply : cancel_reply town_balance 1 ≡ record { answer = Ok tt; number = 1; balance = released_balance }
 unfolding town_balance released_balance indexed
 released_reply = sym (reply_cancelled town_balance 1 town_sound refl town_released)
 

@@ -1,4 +1,5 @@
 -- The program's replies are the tally's, call by call. Assumes nothing.
+use Rattle.std.specs.Prelude.{Ok, Err}
 use Prim.Native.Nat.{ℕ, ◌+◌}
 use mathlib.Core.Path.{◌≡◌, refl, sym, ap, subst, ◌∙◌}
 use mathlib.Core.Logic.{◌↔◌}
@@ -8,10 +9,9 @@ use native.Mathlib.Omega.{arith}
 use Rattle.model.specs.declared.Title.{Title}
 use Rattle.model.specs.declared.Call.{Call}
 use Rattle.model.specs.declared.Call.TheVariants.{Grant, Cancel}
-use Rattle.model.specs.declared.Answer.TheVariants.{Accepted, Refused}
 use Rattle.model.specs.declared.Balance.{Balance}
 use Rattle.model.specs.View.{View, view_of}
-use Rattle.model.specs.Answers.{Refusal, none, number}
+use Rattle.model.specs.Answers.{Answer}
 use Rattle.book.specs.Reading.{Description, read, reading, opened}
 use Rattle.register.specs.declared.Reply.{Reply}
 use Rattle.effect.specs.Granted.{posted}
@@ -30,9 +30,9 @@ use Rattle.conservation.proofs.Following.{Follows, changed, carried, replied_to,
 abbrev pub said_by : Reply → Said
 said_by r = record { answer = r.answer; number = r.number }
 
-said_by_lem : (r : Refusal) (old new : Balance) (n : ℕ) → said_by (replied r old new n) ≡ saying r n
-said_by_lem none old new n = refl
-said_by_lem (number k) old new n = refl
+said_by_lem : (r : Answer) (old new : Balance) (n : ℕ) → said_by (replied r old new n) ≡ saying r n
+said_by_lem (Ok u) old new n = refl
+said_by_lem (Err k) old new n = refl
 
 module _ (d : Description) (b : Balance) (t : Tally) (f : Follows d b t) where
   -- An accepted call carries the tally's number.
@@ -58,18 +58,18 @@ pub replies_agree : (s : List ℕ) (d : Description) (at : ℕ) → reading s �
 replies_agree s d at e = followed d (opened s).balance start (follows_start s d at e)
 
 -- A refused call returns the balance handed to it, whatever that is, and 0 as the title's number.
-pub refused_keeps : (b : Balance) (c : Call) (n : ℕ) → (call_reply b c).answer ≡ Refused n → ((call_reply b c).balance ≡ b) × ((call_reply b c).number ≡ 0)
+pub refused_keeps : (b : Balance) (c : Call) (n : ℕ) → (call_reply b c).answer ≡ Err n → ((call_reply b c).balance ≡ b) × ((call_reply b c).number ≡ 0)
 refused_keeps = keeping.refused_keeps
 
 -- An accepted grant gives one number more, and no other call does.
-grant_counts_lem : (r : Refusal) (b : Balance) (x : Title) (n : ℕ)
+grant_counts_lem : (r : Answer) (b : Balance) (x : Title) (n : ℕ)
     → (replied r b (posted b x) n).balance.given ≡ b.given + grant_counts (Grant x) (replied r b (posted b x) n).answer
-grant_counts_lem none b x n = refl
-grant_counts_lem (number k) b x n = omega arith
+grant_counts_lem (Ok u) b x n = refl
+grant_counts_lem (Err k) b x n = omega arith
 
-cancel_counts : (r : Refusal) (b : Balance) (m n : ℕ) → (replied r b (without_title b m) n).balance.given ≡ b.given + 0
-cancel_counts none b m n = omega arith
-cancel_counts (number k) b m n = omega arith
+cancel_counts : (r : Answer) (b : Balance) (m n : ℕ) → (replied r b (without_title b m) n).balance.given ≡ b.given + 0
+cancel_counts (Ok u) b m n = omega arith
+cancel_counts (Err k) b m n = omega arith
 
 call_counts : (b : Balance) (c : Call) → (call_reply b c).balance.given ≡ b.given + grant_counts c (call_reply b c).answer
 call_counts b (Grant x) = grant_counts_lem (after_test b (grant_refusal (view_of b) x)) b x (b.given + 1)
@@ -102,16 +102,16 @@ unfolding after
 after_list b [] c = refl
 after_list b (x ∷ xs) c = after_list (call_reply b x).balance xs c
 
-abbrev is_none : Refusal → Bool
-is_none none = true
-is_none (number n) = false
+abbrev is_none : Answer → Bool
+is_none (Ok u) = true
+is_none (Err n) = false
 
-replied_exactly : (r : Refusal) (old new : Balance) (n : ℕ) → ((replied r old new n).answer ≡ Accepted) ↔ (r ≡ none)
-replied_exactly none old new n = (λ e. refl, λ e. refl)
-replied_exactly (number k) old new n =
-    (λ e. absurd (not_refused k (replied (number k) old new n) refl e), λ e. absurd (true≢false (sym (ap is_none e))))
+replied_exactly : (r : Answer) (old new : Balance) (n : ℕ) → ((replied r old new n).answer ≡ Ok tt) ↔ (r ≡ Ok tt)
+replied_exactly (Ok u) old new n = (λ e. refl, λ e. refl)
+replied_exactly (Err k) old new n =
+    (λ e. absurd (not_refused k (replied (Err k) old new n) refl e), λ e. absurd (true≢false (sym (ap is_none e))))
 
 -- On every balance a call is accepted exactly when no refusal that documents 01 and 02 list for it applies, 0 included.
-pub call_accepted_exactly : (b : Balance) (c : Call) → ((call_reply b c).answer ≡ Accepted) ↔ (after_test b (call_refusal (view_of b) c) ≡ none)
+pub call_accepted_exactly : (b : Balance) (c : Call) → ((call_reply b c).answer ≡ Ok tt) ↔ (after_test b (call_refusal (view_of b) c) ≡ Ok tt)
 call_accepted_exactly b (Grant x) = replied_exactly (after_test b (grant_refusal (view_of b) x)) b (changed b (Grant x)) (carried b (Grant x))
 call_accepted_exactly b (Cancel k) = replied_exactly (after_test b (cancel_refusal (view_of b) k)) b (changed b (Cancel k)) k

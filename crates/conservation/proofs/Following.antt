@@ -1,4 +1,5 @@
 -- The balance follows the tally: after every list of calls its view is the tally's entries, titles and last number. Assumes nothing.
+use Rattle.std.specs.Prelude.{Ok, Err}
 use Prim.Native.Nat.{ℕ, suc, pred, ◌+◌, ◌-◌, ◌≤◌}
 use mathlib.Core.Path.{◌≡◌, refl, sym, ap, subst, subst⁻¹, ◌∙◌}
 use mathlib.Core.Bool.{Bool, true, false, not, true≢false}
@@ -10,6 +11,7 @@ use Rattle.laws.proofs.Cases.{by_lt, by_eq}
 use Rattle.laws.specs.Sum.{naturals, sum_of, only}
 use Rattle.laws.proofs.Arrays.{get_or_empty, table_filled}
 use Rattle.laws.proofs.Putting.{put_read, put_holds, sum_put, sum_put_next}
+use Rattle.model.specs.declared.Refusal.TheVariants.{Unsound}
 use Rattle.model.specs.declared.Unit.{Unit}
 use Rattle.model.specs.declared.Aquifer.{Aquifer}
 use Rattle.model.specs.declared.Place.{Place}
@@ -20,7 +22,7 @@ use Rattle.model.specs.declared.Balance.{Balance}
 use Rattle.model.specs.Entries.{with_entries, with_extraction}
 use Rattle.model.specs.Fresh.{empty_unit, empty_aquifer, empty_place}
 use Rattle.model.specs.View.{View, view_of}
-use Rattle.model.specs.Answers.{Refusal, none, number, refuse}
+use Rattle.model.specs.Answers.{Answer, refuse}
 use Rattle.runoff.specs.Mean.{rounded}
 use Rattle.titles.specs.declared.Slot.{Slot}
 use Rattle.titles.specs.declared.Slot.TheVariants.{Extraction, Exports, Imports, Returns, WellExtraction}
@@ -170,32 +172,32 @@ module _ (d : Description) (t : Tally) (n : ℕ) (f : InForce (entries d t) n) (
       put_holds (λ e. e.back ≡ return_of e.title) t.place (pred n) (leaving (t.place (pred n))) (kept (pred n)) kept k
 
 -- What the absence of a refusal says.
-abbrev is_none : Refusal → Bool
-is_none none = true
-is_none (number k) = false
+abbrev is_none : Answer → Bool
+is_none (Ok u) = true
+is_none (Err k) = false
 
-not_none : (k : ℕ) → number k ≡ none → ⊥
+not_none : (k : ℕ) → Err k ≡ Ok tt → ⊥
 not_none k e = true≢false (sym (ap is_none e))
 
-unrefused : (k : ℕ) (t : Bool) (r : Refusal) → refuse k t r ≡ none → (t ≡ false) × (r ≡ none)
+unrefused : (k : ℕ) (t : Bool) (r : Answer) → refuse k t r ≡ Ok tt → (t ≡ false) × (r ≡ Ok tt)
 unrefused k true r e = absurd (not_none k e)
 unrefused k false r e = (refl, e)
 
-unjudged : (n : ℕ) (r : Refusal) → judged n r ≡ none → (n ≡ 0) × (r ≡ none)
+unjudged : (n : ℕ) (r : Answer) → judged n r ≡ Ok tt → (n ≡ 0) × (r ≡ Ok tt)
 unjudged n r e =
     by_eq n 0
     (λ q. (q, rw (eq-eqb n 0 q) at e))
     (λ q. absurd (not_none n (rw (ne_eqb n 0 q) at e)))
 
-grant_unrefused : (v : View) (x : Title) → grant_refusal v x ≡ none → (early_number v x ≡ 0) × (no_water (granted v x) x ≡ false)
+grant_unrefused : (v : View) (x : Title) → grant_refusal v x ≡ Ok tt → (early_number v x ≡ 0) × (no_water (granted v x) x ≡ false)
 grant_unrefused v x e =
     let p = unjudged (early_number v x) _ (sym (grant_judged v x) ∙ e) in
-    (p.0, (unrefused 17 (no_water (granted v x) x) none p.1).0)
+    (p.0, (unrefused 17 (no_water (granted v x) x) (Ok tt) p.1).0)
 
-cancel_unrefused : (v : View) (n : ℕ) → cancel_refusal v n ≡ none → (number_in_force v n ≡ true) × (flowing (cancelled v n) ≡ true)
+cancel_unrefused : (v : View) (n : ℕ) → cancel_refusal v n ≡ Ok tt → (number_in_force v n ≡ true) × (flowing (cancelled v n) ≡ true)
 cancel_unrefused v n e =
     let p = unrefused 19 (not (number_in_force v n)) _ e in
-    (not-false _ p.0, not-false _ (unrefused 20 (not (flowing (cancelled v n))) none p.1).0)
+    (not-false _ p.0, not-false _ (unrefused 20 (not (flowing (cancelled v n))) (Ok tt) p.1).0)
 
 -- What an accepted call makes of a balance, and the number that it carries.
 abbrev pub changed : Balance → Call → Balance
@@ -208,15 +210,15 @@ carried b (Cancel n) = n
 
 -- The reply to a call on a sound balance is its refusal's.
 pub replied_to : (b : Balance) (c : Call) → sound (view_of b) ≡ true → call_reply b c ≡ replied (call_refusal (view_of b) c) b (changed b c) (carried b c)
-replied_to b (Grant x) e = ap (λ (s : Bool). replied (refuse 0 (not s) (grant_refusal (view_of b) x)) b (posted b x) (b.given + 1)) e
-replied_to b (Cancel n) e = ap (λ (s : Bool). replied (refuse 0 (not s) (cancel_refusal (view_of b) n)) b (without_title b n) n) e
+replied_to b (Grant x) e = ap (λ (s : Bool). replied (refuse Unsound (not s) (grant_refusal (view_of b) x)) b (posted b x) (b.given + 1)) e
+replied_to b (Cancel n) e = ap (λ (s : Bool). replied (refuse Unsound (not s) (cancel_refusal (view_of b) n)) b (without_title b n) n) e
 
 module _ (d : Description) (b : Balance) (t : Tally) (f : Follows d b t) where
   -- The balance and the tally refuse the same.
   pub same_refusal : (c : Call) → call_refusal (view_of b) c ≡ tally_refusal d t c
   same_refusal c = ap (λ (v : View). call_refusal v c) f.same
 
-  granted_follows : (x : Title) → grant_refusal (view_of b) x ≡ none → Follows d (posted b x) (accepting t (Grant x))
+  granted_follows : (x : Title) → grant_refusal (view_of b) x ≡ Ok tt → Follows d (posted b x) (accepting t (Grant x))
   granted_follows x e =
       let p = grant_unrefused (view_of b) x e in
       let q = posted_view b x f.sized (grantable_of b x f.stands p.0) in
@@ -227,7 +229,7 @@ module _ (d : Description) (b : Balance) (t : Tally) (f : Follows d b t) where
         kept = granted_kept d t x f.kept;
       }
 
-  cancelled_follows : (n : ℕ) → cancel_refusal (view_of b) n ≡ none → Follows d (without_title b n) (accepting t (Cancel n))
+  cancelled_follows : (n : ℕ) → cancel_refusal (view_of b) n ≡ Ok tt → Follows d (without_title b n) (accepting t (Cancel n))
   cancelled_follows n e =
       let p = cancel_unrefused (view_of b) n e in
       let g = in_force_of (view_of b) n p.0 in
@@ -240,19 +242,19 @@ module _ (d : Description) (b : Balance) (t : Tally) (f : Follows d b t) where
         kept = cancelled_kept d t n h f.kept;
       }
 
-  accepted_follows : (c : Call) → call_refusal (view_of b) c ≡ none → Follows d (changed b c) (accepting t c)
+  accepted_follows : (c : Call) → call_refusal (view_of b) c ≡ Ok tt → Follows d (changed b c) (accepting t c)
   accepted_follows (Grant x) e = granted_follows x e
   accepted_follows (Cancel n) e = cancelled_follows n e
 
-  replied_follows : (c : Call) (r : Refusal) → call_refusal (view_of b) c ≡ r → Follows d (replied r b (changed b c) (carried b c)).balance (unless_refused r t c)
-  replied_follows c none e = accepted_follows c e
-  replied_follows c (number k) e = f
+  replied_follows : (c : Call) (r : Answer) → call_refusal (view_of b) c ≡ r → Follows d (replied r b (changed b c) (carried b c)).balance (unless_refused r t c)
+  replied_follows c (Ok u) e = accepted_follows c e
+  replied_follows c (Err k) e = f
 
   -- The balance that a call returns follows the tally after that call.
   pub follows_call : (c : Call) → Follows d (call_reply b c).balance (unless_refused (tally_refusal d t c) t c)
   follows_call c =
       subst⁻¹ (λ (y : Balance). Follows d y (unless_refused (tally_refusal d t c) t c)) (ap (λ (r : Reply). r.balance) (replied_to b c f.stands))
-      (subst (λ (r : Refusal). Follows d (replied (call_refusal (view_of b) c) b (changed b c) (carried b c)).balance (unless_refused r t c)) (same_refusal c)
+      (subst (λ (r : Answer). Follows d (replied (call_refusal (view_of b) c) b (changed b c) (carried b c)).balance (unless_refused r t c)) (same_refusal c)
       (replied_follows c (call_refusal (view_of b) c) refl))
 
 -- The balance after a list of calls follows the tally after that list.

@@ -1,4 +1,5 @@
 -- Demand 3, proved of every accepted book after every list of calls. Assumes nothing.
+use Rattle.std.specs.Prelude.{Ok}
 use Prim.Native.Nat.{ℕ, ◌+◌, ◌*◌, ◌≤◌, ◌<◌}
 use mathlib.Core.Path.{◌≡◌, refl, sym, ap, subst, subst⁻¹, ◌∙◌}
 use mathlib.Core.Bool.{true}
@@ -12,7 +13,6 @@ use Rattle.laws.specs.Signed.{above, below}
 use Rattle.laws.proofs.Arrays.{get_or_table}
 use Rattle.laws.proofs.Gathering.{sum_same, sum_plus}
 use Rattle.laws.proofs.Parts.{equal_parts, Less, less_pos, less_self, less_plus, less_equal}
-use Rattle.model.specs.declared.Answer.TheVariants.{Accepted}
 use Rattle.model.specs.declared.Balance.{Balance}
 use Rattle.model.specs.View.{View}
 use Rattle.titles.specs.declared.Slot.TheVariants.{Exports, Imports, Returns, WellExtraction}
@@ -57,7 +57,7 @@ without_transfers o n s e x y v r b i k a w p q m h =
 
 -- The figures that document 01 defines over the tally's entries.
 abbrev figures : Description → Tally → Figures
-figures d t = record { answer = Accepted; units = all_unit_figures (entries d t); aquifers = all_aquifer_figures (entries d t) }
+figures d t = record { answer = Ok tt; units = all_unit_figures (entries d t); aquifers = all_aquifer_figures (entries d t) }
 
 module _ (d : Description) (t : Tally) (s : Soundness (entries d t)) where
   ready : Ready (entries d t)

@@ -1,6 +1,6 @@
 -- Demand 3 (documents 00, 01 and 02 [1] and [2]): the tally, and the one claim over every list of calls on every accepted book. It is proved in
 -- proofs/Promise. Units and aquifers are given by their index: number n stands at index n - 1. Assumes nothing.
-use Rattle.std.specs.Prelude.{ℕ, zero, suc, pred, ◌+◌, ◌*◌, ◌/◌, ◌%◌, ◌≤◌, ◌<◌, ◌≡◌, Bool, true, false, ◌||◌, List, [], ◌∷◌, eqb, ℤ, pos, negsuc, neg_ℤ, ◌+ℤ◌, ◌-ℤ◌, length, get_or}
+use Rattle.std.specs.Prelude.{ℕ, zero, suc, pred, ◌+◌, ◌*◌, ◌/◌, ◌%◌, ◌≤◌, ◌<◌, ◌≡◌, Bool, true, false, ◌||◌, List, [], ◌∷◌, eqb, ℤ, pos, negsuc, neg_ℤ, ◌+ℤ◌, ◌-ℤ◌, length, get_or, Ok, Err}
 use Rattle.laws.specs.Sum.{naturals, integers, sum_of, only}
 use Rattle.laws.specs.Signed.{above, below}
 use Rattle.laws.specs.Gather.{gather}
@@ -12,12 +12,11 @@ use Rattle.model.specs.declared.Title.TheVariants.{UnitWithdrawal, AquiferWithdr
 use Rattle.model.specs.declared.Place.{Place}
 use Rattle.model.specs.declared.Call.{Call}
 use Rattle.model.specs.declared.Call.TheVariants.{Grant, Cancel}
-use Rattle.model.specs.declared.Answer.TheVariants.{Accepted}
 use Rattle.model.specs.declared.Balance.{Balance}
 use Rattle.model.specs.Entries.{with_entries, with_extraction, place_of}
 use Rattle.model.specs.Fresh.{empty_aquifer, empty_place}
 use Rattle.model.specs.View.{View, view_of}
-use Rattle.model.specs.Answers.{Refusal, none, number}
+use Rattle.model.specs.Answers.{Answer}
 use Rattle.runoff.specs.Mean.{divisor}
 use Rattle.runoff.specs.Record.{sum_on, gauged_on}
 use Rattle.titles.specs.declared.Slot.{Slot}
@@ -104,12 +103,12 @@ accepting t (Grant x) = record { last = suc t.last; place = put_at t.place t.las
 accepting t (Cancel n) = record { last = t.last; place = put_at t.place (pred n) (leaving (t.place (pred n))) }
 
 -- A call is refused when a refusal listed for it, leaving out 0, holds of these entries, titles and last number; then nothing changes.
-abbrev pub tally_refusal : Description → Tally → Call → Refusal
+abbrev pub tally_refusal : Description → Tally → Call → Answer
 tally_refusal d t c = call_refusal (entries d t) c
 
-abbrev pub unless_refused : Refusal → Tally → Call → Tally
-unless_refused none t c = accepting t c
-unless_refused (number n) t c = t
+abbrev pub unless_refused : Answer → Tally → Call → Tally
+unless_refused (Ok u) t c = accepting t c
+unless_refused (Err n) t c = t
 
 -- The tally after a list of calls, of which it sees what they ask.
 unfoldable pub tallied : Description → Tally → List Call → Tally
@@ -213,7 +212,7 @@ reported b = figures_reply (view_of b)
 -- The claim, of a description d, the tally t after some calls and the figures f that the program reports after the same calls.
 pub record Demand3 (d : Description) (t : Tally) (f : Figures) : Type 0 where
   -- Each figure is the program's, being the one that document 01 defines over the tally's entries.
-  pub defined : f ≡ record { answer = Accepted; units = all_unit_figures (entries d t); aquifers = all_aquifer_figures (entries d t) }
+  pub defined : f ≡ record { answer = Ok tt; units = all_unit_figures (entries d t); aquifers = all_aquifer_figures (entries d t) }
   -- Outlet flows plus the units' extractions, base exports, evaporation and storage changes equal natural runoff plus returns, base
   -- imports and water brought from aquifers.
   pub water :

@@ -1,12 +1,10 @@
 -- What the program and the tally say of each call of a list. Assumes nothing.
-use Rattle.std.specs.Prelude.{ℕ, suc, ◌+◌, ◌≡◌, List, [], ◌∷◌}
-use Rattle.model.specs.declared.Answer.{Answer}
-use Rattle.model.specs.declared.Answer.TheVariants.{Accepted, Refused}
+use Rattle.std.specs.Prelude.{ℕ, suc, ◌+◌, ◌≡◌, List, [], ◌∷◌, Ok, Err}
 use Rattle.model.specs.declared.Title.{Title}
 use Rattle.model.specs.declared.Call.{Call}
 use Rattle.model.specs.declared.Call.TheVariants.{Grant, Cancel}
 use Rattle.model.specs.declared.Balance.{Balance}
-use Rattle.model.specs.Answers.{Refusal, none, number, answered}
+use Rattle.model.specs.Answers.{Answer}
 use Rattle.register.specs.Calls.{call_reply, after}
 use Rattle.book.specs.Reading.{Description}
 use Rattle.conservation.specs.Demand3.{Tally, tally_refusal, unless_refused}
@@ -27,9 +25,9 @@ abbrev pub number_for : Tally → Call → ℕ
 number_for t (Grant x) = suc t.last
 number_for t (Cancel n) = n
 
-abbrev pub saying : Refusal → ℕ → Said
-saying none n = record { answer = answered none; number = n }
-saying (number k) n = record { answer = answered (number k); number = 0 }
+abbrev pub saying : Answer → ℕ → Said
+saying (Ok u) n = record { answer = Ok tt; number = n }
+saying (Err k) n = record { answer = (Err k); number = 0 }
 
 -- What the tally says of a list of calls.
 unfoldable pub sayings : Description → Tally → List Call → List Said
@@ -39,8 +37,8 @@ sayings d t (c ∷ cs) =
 
 -- How many grants of a list were accepted, by the calls and by what was said of each.
 abbrev pub grant_counts : Call → Answer → ℕ
-grant_counts (Grant x) Accepted = 1
-grant_counts (Grant x) (Refused k) = 0
+grant_counts (Grant x) (Ok u) = 1
+grant_counts (Grant x) (Err k) = 0
 grant_counts (Cancel n) a = 0
 
 unfoldable pub grants : List Call → List Said → ℕ
@@ -52,6 +50,6 @@ grants (c ∷ cs) (s ∷ said) = grant_counts c s.answer + grants cs said
 -- grant that is accepted next tells the number after those, and a cancellation that is accepted next the number that it asks for.
 pub record Numbered (given : ℕ) (b : Balance) (calls : List Call) : Type 0 where
   pub last : (after b calls).given ≡ given + grants calls (replies b calls)
-  pub next : (x : Title) → (call_reply (after b calls) (Grant x)).answer ≡ Accepted
+  pub next : (x : Title) → (call_reply (after b calls) (Grant x)).answer ≡ Ok tt
       → (call_reply (after b calls) (Grant x)).number ≡ suc (given + grants calls (replies b calls))
-  pub asked : (n : ℕ) → (call_reply (after b calls) (Cancel n)).answer ≡ Accepted → (call_reply (after b calls) (Cancel n)).number ≡ n
+  pub asked : (n : ℕ) → (call_reply (after b calls) (Cancel n)).answer ≡ Ok tt → (call_reply (after b calls) (Cancel n)).number ≡ n

@@ -1,4 +1,5 @@
 -- How the replies of the calls under a dashboard's make its table. Assumes nothing.
+use Rattle.std.specs.Prelude.{Ok, Err}
 use Prim.Native.Nat.{ℕ, ◌+◌, ◌*◌, ◌≤◌}
 use mathlib.Core.Path.{◌≡◌, sym, ap, ◌∙◌}
 use mathlib.Core.Bool.{Bool}
@@ -6,8 +7,7 @@ use mathlib.Core.List.{List}
 use native.Mathlib.Nat.{suc-mul}
 use native.Mathlib.Numerals.{add-one}
 use native.Mathlib.Omega.{arith}
-use Rattle.model.specs.declared.Answer.{Answer}
-use Rattle.model.specs.declared.Answer.TheVariants.{Accepted, Refused}
+use Rattle.model.specs.Answers.{Answer}
 use Rattle.model.specs.declared.Balance.{Balance}
 use Rattle.model.specs.View.{view_of}
 use Rattle.basin.specs.declared.Figures.{Figures}
@@ -64,8 +64,8 @@ pub figured_is : (b : Balance) (f : Figures) (a : Answer) → f ≡ figures_repl
 figured_is b f a h e = ap figures_given (sym e) ∙ ap (λ (g : Figures). figures_given g.answer) h
 
 counted_within : (a : Answer) → figures_given a ≤ 1
-counted_within Accepted = omega arith
-counted_within (Refused n) = omega arith
+counted_within (Ok u) = omega arith
+counted_within (Err n) = omega arith
 
 -- A count of figures is at most 1 more, and the count after one more time.
 pub figured_within : (b : Balance) → figured b ≤ 1

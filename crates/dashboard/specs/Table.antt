@@ -1,7 +1,6 @@
 -- The table of a book, as a dashboard reads it. Assumes nothing.
-use Rattle.std.specs.Prelude.{ℕ, Bool, true, false, List}
-use Rattle.model.specs.declared.Answer.{Answer}
-use Rattle.model.specs.declared.Answer.TheVariants.{Accepted, Refused}
+use Rattle.std.specs.Prelude.{ℕ, Bool, true, false, List, Ok, Err}
+use Rattle.model.specs.Answers.{Answer}
 use Rattle.model.specs.declared.Balance.{Balance}
 use Rattle.model.specs.View.{view_of}
 use Rattle.basin.specs.Figures.{figures_reply}
@@ -35,24 +34,24 @@ table_after r = table_by r.ending r.balance
 
 -- A refused description has its number and place, and the figures of the fresh balance, which are all 0.
 abbrev pub opened_table : List ℕ → Answer → ℕ → Balance → Table
-opened_table s Accepted place b = table_after (ran s place b)
-opened_table s (Refused n) place b = table_of false n place b
+opened_table s (Ok u) place b = table_after (ran s place b)
+opened_table s (Err n) place b = table_of false n place b
 
 abbrev pub book_table : List ℕ → Table
 book_table s = opened_table s (opened s).answer (opened s).place (opened s).balance
 
 -- The balance of a book after its calls; of a refused description the fresh one.
 abbrev pub balance_by : List ℕ → Answer → ℕ → Balance → Balance
-balance_by s Accepted place b = (ran s place b).balance
-balance_by s (Refused n) place b = b
+balance_by s (Ok u) place b = (ran s place b).balance
+balance_by s (Err n) place b = b
 
 abbrev pub balance_after : List ℕ → Balance
 balance_after s = balance_by s (opened s).answer (opened s).place (opened s).balance
 
 -- 1 if the figures of a balance are given, 0 if they are refused.
 abbrev pub figures_given : Answer → ℕ
-figures_given Accepted = 1
-figures_given (Refused n) = 0
+figures_given (Ok u) = 1
+figures_given (Err n) = 0
 
 abbrev pub figured : Balance → ℕ
 figured b = figures_given (figures_reply (view_of b)).answer

@@ -1,4 +1,5 @@
 -- The loop over the calls of a book: the lines written so far and those of the calls that are left are all call lines. Assumes nothing.
+use Rattle.std.specs.Prelude.{Ok, Err}
 use Prim.Native.Nat.{ℕ, zero, suc, ◌+◌, ◌-◌, ◌*◌, ◌≤◌, ◌<◌}
 use mathlib.Core.Path.{◌≡◌, refl, sym, ap, subst, ◌∙◌}
 use mathlib.Core.List.{List, [], ◌++◌, append-nil, append_assoc}
@@ -6,8 +7,7 @@ use lib.ListN.{length}
 use native.Mathlib.Numerals.{add-one, sub-one}
 use native.Mathlib.Omega.{arith}
 use Rattle.model.specs.declared.Call.{Call}
-use Rattle.model.specs.declared.Answer.{Answer}
-use Rattle.model.specs.declared.Answer.TheVariants.{Accepted, Refused}
+use Rattle.model.specs.Answers.{Answer}
 use Rattle.model.specs.declared.Balance.{Balance}
 use Rattle.record.specs.declared.CallAt.TheVariants.{End, Fails, Asks}
 use Rattle.record.specs.declared.Ending.{Ending}
@@ -50,10 +50,10 @@ left_none k s at b = refl
 -- The line of a call, by its answer and the number that it tells if it is accepted.
 told : (k : ℕ) (b : Balance) (c : Call) (a : Answer) (n : ℕ) → a ≡ (call_reply b c).answer → n ≡ call_number b.given c
     → call_text k c a n ≡ call_text k c (call_reply b c).answer (call_reply b c).number
-told k b c Accepted n e q =
+told k b c (Ok tt) n e q =
     subst (λ (a : Answer). accepted_text k c n ≡ call_text k c a (call_reply b c).number) e
     (ap (accepted_text k c) (q ∙ sym (accepted_number b c (sym e))))
-told k b c (Refused x) n e q = subst (λ (a : Answer). call_refused k x ≡ call_text k c a (call_reply b c).number) e refl
+told k b c (Err x) n e q = subst (λ (a : Answer). call_refused k x ≡ call_text k c a (call_reply b c).number) e refl
 
 -- The loop after k calls: what is written, and that with the lines that are left it is all call lines.
 pub record Printing (s : List ℕ) (from : ℕ) (start : Balance) (old : List ℕ) (p₀ : ℕ) (out : List ℕ) (p : ℕ) (b : Balance) (at k left : ℕ) : Type 0 where
@@ -121,7 +121,7 @@ module _ (s : List ℕ) (from : ℕ) (start : Balance) (old : List ℕ) (p₀ : 
 
   -- A refused call leaves the balance as it is.
   pub printing_refused : (left : ℕ) (c : Call) (to : ℕ) (new : List ℕ) (q : ℕ) (a : Answer) (n m : ℕ) → a ≡ (call_reply b c).answer → n ≡ call_number b.given c
-      → a ≡ Refused m → 0 < left → Printing s from start old p₀ out p b at k left → call_at s at ≡ Asks c to
+      → a ≡ Err m → 0 < left → Printing s from start old p₀ out p b at k left → call_at s at ≡ Asks c to
       → Written 64 out p (call_text (k + 1) c a n) new q → Printing s from start old p₀ new q b to (k + 1) (left - 1)
   printing_refused left c to new q a n m f g r h i e w =
       subst (λ (x : Balance). Printing s from start old p₀ new q x to (k + 1) (left - 1)) (refused_keeps b c m (sym f ∙ r)).0

@@ -1,4 +1,5 @@
 -- The table of a balance, from the reply of its figures. Assumes nothing.
+use Rattle.std.specs.Prelude.{Ok, Err}
 use Prim.Native.Nat.{ℕ, zero, suc, ◌≤◌, ◌<◌}
 use mathlib.Core.Path.{◌≡◌, refl, sym, ap, ap₂, ◌∙◌}
 use mathlib.Core.Bool.{Bool, true, false, cond}
@@ -8,8 +9,8 @@ use native.Mathlib.Omega.{arith}
 use borrow.Author.Tests.{lt-ltb, le-ltb}
 use Rattle.laws.proofs.Cases.{by_bool}
 use Rattle.laws.proofs.Arrays.{get_or_table}
-use Rattle.model.specs.declared.Answer.{Answer}
-use Rattle.model.specs.declared.Answer.TheVariants.{Accepted, Refused}
+use Rattle.model.specs.declared.Refusal.TheVariants.{Unsound}
+use Rattle.model.specs.Answers.{Answer}
 use Rattle.model.specs.View.{View}
 use Rattle.figures.specs.declared.UnitFigures.{UnitFigures}
 use Rattle.figures.specs.declared.AquiferFigures.{AquiferFigures}
@@ -22,11 +23,11 @@ use Rattle.report.specs.Lines.{refused_line}
 use Rattle.listing.specs.Listing.{lines_of, unit_text, aquifer_text, table_text, run_text, answer_text, printed}
 
 -- A reply is accepted exactly when the balance is sound.
-pub figures_sound : (v : View) → (figures_reply v).answer ≡ Accepted → sound v ≡ true
-figures_sound v e = by_bool (sound v) (λ q. q) (λ q. let z : Refused 0 ≡ Accepted = rw q at e in let w : ◌≡◌ {A = ℕ} 0 1 = cc in absurd (omega arith))
+pub figures_sound : (v : View) → (figures_reply v).answer ≡ Ok tt → sound v ≡ true
+figures_sound v e = by_bool (sound v) (λ q. q) (λ q. let z : Err Unsound ≡ Ok tt = rw q at e in let w : ◌≡◌ {A = ℕ} 0 1 = cc in absurd (omega arith))
 
-pub refused_unsound : (v : View) (n : ℕ) → (figures_reply v).answer ≡ Refused n → sound v ≡ false
-refused_unsound v n e = by_bool (sound v) (λ q. let z : Accepted ≡ Refused n = rw q at e in let w : ◌≡◌ {A = ℕ} 0 1 = cc in absurd (omega arith)) (λ q. q)
+pub refused_unsound : (v : View) (n : ℕ) → (figures_reply v).answer ≡ Err n → sound v ≡ false
+refused_unsound v n e = by_bool (sound v) (λ q. let z : (Ok tt) ≡ Err n = rw q at e in let w : ◌≡◌ {A = ℕ} 0 1 = cc in absurd (omega arith)) (λ q. q)
 
 -- Lines that agree at each place are the same text.
 lines_same : (n : ℕ) (f g : ℕ → List ℕ) → ((k : ℕ) → k < n → f k ≡ g k) → lines_of n f ≡ lines_of n g
@@ -73,8 +74,8 @@ module _ (s : List ℕ) (h : length s ≤ 65536) (a : Answer) (e : (opened s).an
       sym (ap (λ (t : Bool). cond t (refused_line 21 65536) (answer_text s (opened s).answer (opened s).place (opened s).balance)) (le-ltb 65536 (length s) h)
       ∙ ap (λ (x : Answer). answer_text s x (opened s).place (opened s).balance) e)
 
-pub printed_accepted : (s : List ℕ) → length s ≤ 65536 → (opened s).answer ≡ Accepted → run_text s (opened s).place (opened s).balance ≡ printed s
-printed_accepted s h e = by_answer s h Accepted e
+pub printed_accepted : (s : List ℕ) → length s ≤ 65536 → (opened s).answer ≡ Ok tt → run_text s (opened s).place (opened s).balance ≡ printed s
+printed_accepted s h e = by_answer s h (Ok tt) e
 
-pub printed_refused : (s : List ℕ) (n : ℕ) → length s ≤ 65536 → (opened s).answer ≡ Refused n → refused_line n (opened s).place ≡ printed s
-printed_refused s n h e = by_answer s h (Refused n) e
+pub printed_refused : (s : List ℕ) (n : ℕ) → length s ≤ 65536 → (opened s).answer ≡ Err n → refused_line n (opened s).place ≡ printed s
+printed_refused s n h e = by_answer s h (Err n) e

@@ -1,4 +1,5 @@
 -- A book without a PD is read alike by both rules, record by record. Assumes nothing.
+use Rattle.std.specs.Prelude.{Ok}
 use Prim.Native.Nat.{ℕ, zero, suc, ◌+◌, ◌-◌, ◌<◌}
 use mathlib.Core.Path.{◌≡◌, refl, sym, ap, subst, subst⁻¹, ◌∙◌}
 use mathlib.Core.Bool.{Bool, true, false, cond, not, ◌||◌}
@@ -14,7 +15,6 @@ use Rattle.laws.proofs.Arrays.{table_same}
 use Rattle.model.specs.declared.Unit.{Unit as BasinUnit}
 use Rattle.model.specs.declared.Balance.{Balance}
 use Rattle.model.specs.Fresh.{empty_unit}
-use Rattle.model.specs.Answers.{none, answered}
 use Rattle.runoff.specs.declared.Measure.{Measure}
 use Rattle.runoff.specs.declared.Measure.TheVariants.{Millimetres}
 use Rattle.runoff.specs.Record.{of_rain, of_gauge}
@@ -215,8 +215,8 @@ reads_alike : (f : ℕ) (s : List ℕ) (at : ℕ) (d : Description) → Good d �
 unfolding reading_from mm_reading_from
 reads_alike zero s at d good free h = record { same = refl; reached = tt }
 reads_alike (suc f) s at d good free h =
-    let none = no_pd f s at h in
-    let entry : mm_entry_at s at ≡ entry_at s at = rw none in
+    let (Ok u) = no_pd f s at h in
+    let entry : mm_entry_at s at ≡ entry_at s at = rw (Ok tt) in
     by_record s at d
     (λ q.
     record {
@@ -230,12 +230,12 @@ reads_alike (suc f) s at d good free h =
     })
     (λ e to n p q v.
     record {
-      same = reads_faulty f s at d e to n p q v ∙ sym (mm_faulty f s at d e to n p (entry ∙ q) (same_verdict d e at (free_entry s at none e to q) ∙ v));
+      same = reads_faulty f s at d e to n p q v ∙ sym (mm_faulty f s at d e to n p (entry ∙ q) (same_verdict d e at (free_entry s at (Ok tt) e to q) ∙ v));
       reached = subst⁻¹ Reached (reads_faulty f s at d e to n p q v) tt;
     })
     (λ e to q v.
     let b = (standing s at e to q).begun in
-    let g = free_entry s at none e to q in
+    let g = free_entry s at (Ok tt) e to q in
     let rest = reads_alike f s to (with_entry d e) (good_entry d good e at v b) (keeps_free d free e b g) (no_pd_after f s at e to h q) in
     record {
       same = reads_clear f s at d e to q v ∙ rest.same ∙ sym (mm_clear f s at d e to (entry ∙ q) (same_verdict d e at g ∙ v));
@@ -258,7 +258,7 @@ module _ (s : List ℕ) (h : without_pd s ≡ true) where
   opens_as_before = same_opened (reading s) whole.reached ∙ ap (opened_by mm_balance) whole.same
     where
       same_opened : (o : Outcome) → Reached o → opened_by balance_of o ≡ opened_by mm_balance o
-      same_opened (read d at) r = ap (λ (b : Balance). record { answer = answered none; place = at; balance = b }) (same_balance d r.0 r.1)
+      same_opened (read d at) r = ap (λ (b : Balance). record { answer = Ok tt; place = at; balance = b }) (same_balance d r.0 r.1)
       same_opened (refused n p) r = refl
 
   -- Books without a PD mark print as before.

@@ -1,8 +1,9 @@
--- A unit and an aquifer with other entries, all else as it was; and the place of a title. Assumes nothing.
+-- A unit and an aquifer with other entries, all else as it was; the volume and the place of a title. Assumes nothing.
 use Rattle.std.specs.Prelude.{ℕ, Bool}
 use Rattle.model.specs.declared.Unit.{Unit}
 use Rattle.model.specs.declared.Aquifer.{Aquifer}
 use Rattle.model.specs.declared.Title.{Title}
+use Rattle.model.specs.declared.Title.TheVariants.{UnitWithdrawal, AquiferWithdrawal, UnitTransfer, AquiferTransfer, ReturningWithdrawal}
 use Rattle.model.specs.declared.Place.{Place}
 
 -- A unit with this extraction, these exports, imports and returns.
@@ -24,6 +25,14 @@ with_entries u extraction exports imports returns =
 abbrev pub with_extraction : Aquifer → ℕ → Aquifer
 with_extraction a extraction =
     record { storage = a.storage; natural = a.natural; pumped = a.pumped; committed = a.committed; extraction = extraction }
+
+-- The volume of a title of any kind.
+abbrev pub volume_of : Title → ℕ
+volume_of (UnitWithdrawal u r x) = x
+volume_of (AquiferWithdrawal a x) = x
+volume_of (UnitTransfer g r x) = x
+volume_of (AquiferTransfer a u x) = x
+volume_of (ReturningWithdrawal a u r x) = x
 
 -- The place of a title, in force or not.
 abbrev pub place_of : Title → Bool → Place

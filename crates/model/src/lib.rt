@@ -3,6 +3,8 @@
 
 ghost use Rattle.std.specs.Prelude.{◌≡◌};
 ghost use Rattle.model.specs.Fresh as fresh;
+ghost use Rattle.model.specs.Answers as answers;
+ghost use Rattle.model.specs.Entries as entries;
 
 // A basin unit: the number of its downstream unit (0 for an outlet), its entries with its titles in, and its natural runoff.
 // All volumes are thousand m³; a rise of storage is positive.
@@ -78,12 +80,53 @@ pub struct Balance {
     pub given: usize,
 }
 
-// The answer of a call: accepted, or refused under one of document 01's numbers.
-#[derive(Clone, Copy)]
-pub enum Answer {
-    Accepted,
-    Refused(u8),
+// Why a description, a record or a call is refused. The numbers are those that are printed and that the paper lists.
+#[derive(Clone, Copy, PartialEq, Eq, Debug)]
+pub enum Refusal {
+    // The balance or the state that is handed in breaks a rule of the register.
+    Unsound = 0,
+    // Fewer bytes are left than a mark or its body.
+    Short = 1,
+    UnknownMark = 2,
+    OutOfSequence = 3,
+    // One unit, aquifer, soil record or year too many.
+    TooMany = 4,
+    // A field outside its values.
+    OutsideValues = 5,
+    // A unit with fewer than 20 years.
+    FewYears = 6,
+    // A unit above 300,000 hectares.
+    LargeUnit = 7,
+    // A downstream number not above the unit's own, or above the last unit's.
+    BadDownstream = 8,
+    // A gauged sum that is negative or above 10,000,000 times the years.
+    BadGauge = 9,
+    NegativeFlow = 10,
+    NegativeRecharge = 11,
+    // No such unit or aquifer.
+    NoSuchPlace = 12,
+    NoSuchUse = 13,
+    // A volume of 0 or above 10,000,000.
+    BadVolume = 14,
+    // 256 numbers are given.
+    NumbersGiven = 15,
+    // An entry would pass 10,000,000.
+    EntryFull = 16,
+    NoWater = 17,
+    // The receiver is the giver or lies below it.
+    ReceiverBelow = 18,
+    NotInForce = 19,
+    // Some flow would be negative without the title.
+    FlowNeeded = 20,
+    // A book or a journal that is too long.
+    TooLong = 21,
+    // A fifth name.
+    FifthName = 22,
+    NoSuchName = 23,
 }
+
+// The answer of opening and of a call: accepted, or refused.
+pub type Answer = Result<(), Refusal>;
 
 // What a call asks: a title to be granted (GU, GA, TU, TA, GW), or the number of a title to be cancelled (CA).
 #[derive(Clone, Copy)]
@@ -92,11 +135,28 @@ pub enum Call {
     Cancel { number: u16 },
 }
 
-// The first of some places at which a test holds, if there is one.
-#[derive(Clone, Copy)]
-pub enum Found {
-    At(usize),
-    Nothing,
+impl Title {
+    // The volume of a title of any kind.
+    pub fn volume(self) -> u32
+        ensures { result ≡ entries.volume_of self }
+    {
+        match self {
+            Title::UnitWithdrawal { volume, .. }
+            | Title::AquiferWithdrawal { volume, .. }
+            | Title::UnitTransfer { volume, .. }
+            | Title::AquiferTransfer { volume, .. }
+            | Title::ReturningWithdrawal { volume, .. } => volume,
+        }
+    }
+}
+
+impl Refusal {
+    // The number that the paper gives the refusal.
+    pub fn number(self) -> u8
+        ensures { result ≡ answers.number self }
+    {
+        self as u8
+    }
 }
 
 impl Unit {

@@ -1,4 +1,5 @@
 -- What records without a fault satisfy, and what they keep of the open unit. Assumes nothing.
+use Rattle.std.specs.Prelude.{Ok}
 use Prim.Native.Nat.{ℕ, suc, ◌+◌, ◌*◌, ◌≤◌, ◌<◌}
 use mathlib.Core.Path.{◌≡◌, sym}
 use mathlib.Core.Logic.{◌⊎◌, inl, inr}
@@ -12,7 +13,9 @@ use Rattle.laws.specs.Signed.{above, below}
 use Rattle.laws.proofs.Cases.{by_lt, by_eq}
 use Rattle.laws.proofs.Parts.{plus_parts, by_sign, lt_z_false}
 use Rattle.laws.proofs.Signs.{below_pos}
+use Rattle.model.specs.declared.Refusal.TheVariants.{FewYears, BadGauge}
 use Rattle.model.specs.declared.Aquifer.{Aquifer}
+use Rattle.model.specs.Answers.{refuse}
 use Rattle.river.specs.Wells.{recharge}
 use Rattle.runoff.specs.Soil.{Known}
 use Rattle.runoff.specs.Mean.{divisor}
@@ -20,7 +23,8 @@ use Rattle.runoff.proofs.Record.{weighted_within}
 use Rattle.record.specs.declared.UnitRecord.{UnitRecord}
 use Rattle.record.specs.Record.{with_soil, with_year, is_gauged}
 use Rattle.record.specs.Fault.{Sane, Closed, YearRange, closing_fault, bad_gauge, not_term, terms_outside, stray_commitment, unit_outside, not_onward, unit_fault, aquifer_outside, aquifer_fault}
-use Rattle.record.proofs.Faults.{pass, or_left, or_right, StorageWithin, storage_within, terms_within, AquiferWithin, aquifer_within}
+use Rattle.model.proofs.Answers.{pass}
+use Rattle.record.proofs.Faults.{or_left, or_right, StorageWithin, storage_within, terms_within, AquiferWithin, aquifer_within}
 
 -- The fields of the unit at index k are inside their values, and it drains onward.
 pub record Fine (k : ℕ) (u : UnitRecord) : Type 0 where
@@ -60,12 +64,12 @@ pub record UnitClean (units aquifers : ℕ) (u : UnitRecord) : Type 0 where
   pub before : aquifers ≡ 0
   pub fine : Fine units u
 
-pub unit_clean : (units aquifers : ℕ) (u : UnitRecord) → unit_fault units aquifers u ≡ 0 → UnitClean units aquifers u
+pub unit_clean : (units aquifers : ℕ) (u : UnitRecord) → unit_fault units aquifers u ≡ Ok tt → UnitClean units aquifers u
 unit_clean units aquifers u e =
-    let p₁ = pass (ltb 0 aquifers) 2 _ e in
-    let p₂ = pass (leb 64 units) 3 _ p₁.on in
-    let p₃ = pass (unit_outside u) 4 _ p₂.on in
-    let p₄ = pass (not_onward u.downstream (units + 1)) 7 _ p₃.on in
+    let p₁ = pass (ltb 0 aquifers) _ _ e in
+    let p₂ = pass (leb 64 units) _ _ p₁.on in
+    let p₃ = pass (unit_outside u) _ _ p₂.on in
+    let p₄ = pass (not_onward u.downstream (units + 1)) _ _ p₃.on in
     let five = terms_outside u.extraction u.exports u.imports u.returns u.evaporation in
     let t = terms_within u.extraction u.exports u.imports u.returns u.evaporation (or_left five _ p₃.not) in
     let o₁ = or_right five _ p₃.not in
@@ -92,11 +96,11 @@ pub record AquiferClean (aquifers : ℕ) (a : Aquifer) : Type 0 where
   pub room : aquifers < 32
   pub fine : WellFine a
 
-pub aquifer_clean : (aquifers : ℕ) (a : Aquifer) → aquifer_fault aquifers a ≡ 0 → AquiferClean aquifers a
+pub aquifer_clean : (aquifers : ℕ) (a : Aquifer) → aquifer_fault aquifers a ≡ Ok tt → AquiferClean aquifers a
 aquifer_clean aquifers a e =
-    let p₁ = pass (leb 32 aquifers) 3 _ e in
-    let p₂ = pass (aquifer_outside a) 4 _ p₁.on in
-    let p₃ = pass (lt_z (recharge a) (pos 0)) 10 _ p₂.on in
+    let p₁ = pass (leb 32 aquifers) _ _ e in
+    let p₂ = pass (aquifer_outside a) _ _ p₁.on in
+    let p₃ = pass (lt_z (recharge a) (pos 0)) _ _ p₂.on in
     record { room = leb-false 32 aquifers p₁.not; fine = record { within = aquifer_within a p₂.not; recharged = p₃.not } }
 
 -- A unit that closes has enough years, a sum that is not negative and a mean of at most 10,000,000.
@@ -122,14 +126,14 @@ mean_of u s e =
     (λ z. rw (eq-eqb u.soils 0 z) (gauged_most u.years u.sum (and_right (eqb u.soils 0) _ e (eq-eqb u.soils 0 z))))
     (λ z. rw (ne_eqb u.soils 0 z) (omega (arith, s.gains)))
 
-closing_rest : (units : ℕ) (u : UnitRecord) → (units ≡ 0 → ⊥) → closing_fault units u ≡ 0
-    → ◌≡◌ {A = ℕ} (cond (ltb u.years 20) 6 (cond (bad_gauge u.soils u.years u.sum) 9 0)) 0
+closing_rest : (units : ℕ) (u : UnitRecord) → (units ≡ 0 → ⊥) → closing_fault units u ≡ Ok tt
+    → refuse FewYears (ltb u.years 20) (refuse BadGauge (bad_gauge u.soils u.years u.sum) (Ok tt)) ≡ Ok tt
 closing_rest units u n e = rw (ne_eqb units 0 n) at e
 
-pub closing_clean : (units : ℕ) (u : UnitRecord) → closing_fault units u ≡ 0 → (units ≡ 0 → ⊥) → Sane u → Closed u
+pub closing_clean : (units : ℕ) (u : UnitRecord) → closing_fault units u ≡ Ok tt → (units ≡ 0 → ⊥) → Sane u → Closed u
 closing_clean units u e n s =
-    let p₁ = pass (ltb u.years 20) 5 _ (closing_rest units u n e) in
-    let p₂ = pass (bad_gauge u.soils u.years u.sum) 8 _ p₁.on in
+    let p₁ = pass (ltb u.years 20) _ _ (closing_rest units u n e) in
+    let p₂ = pass (bad_gauge u.soils u.years u.sum) _ _ p₁.on in
     record { sane = s; enough = ltb-false u.years 20 p₁.not; least = least_of u s p₂.not; mean = mean_of u s p₂.not }
 
 -- A year, or a soil record, more keeps the open unit's numbers small.

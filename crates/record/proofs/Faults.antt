@@ -1,4 +1,5 @@
 -- What a field that is not outside its values satisfies. Assumes nothing.
+use Rattle.std.specs.Prelude.{Ok}
 use Prim.Native.Nat.{ℕ, suc, ◌+◌, ◌*◌, ◌≤◌, ◌<◌}
 use mathlib.Core.Path.{◌≡◌, refl, sym, ◌∙◌}
 use mathlib.Core.Bool.{Bool, true, false, cond, ◌||◌, true≢false}
@@ -10,7 +11,9 @@ use borrow.Author.Tests.{ltb-false, leb-false, eqb-false, lt-ltb, le-ltb}
 use Rattle.laws.specs.Signed.{above, below}
 use Rattle.laws.proofs.Cases.{by_lt}
 use Rattle.laws.proofs.Parts.{Less, less_above, less_below, by_sign}
+use Rattle.model.specs.declared.Refusal.{Refusal}
 use Rattle.model.specs.declared.Aquifer.{Aquifer}
+use Rattle.model.proofs.Answers.{pass}
 use Rattle.record.specs.declared.UnitRecord.{UnitRecord}
 use Rattle.runoff.specs.Soil.{Known}
 use Rattle.record.specs.Fault.{not_term, not_storage, terms_outside, aquifer_outside, soil_outside, soil_fault, rain_outside, rain_fault, gauge_outside_by, gauge_outside, gauge_fault, YearRange, gauge_outside_at, gauged_outside}
@@ -82,15 +85,6 @@ less_negative {z} {a} {b} p =
     (λ h. lt-ltb a b h ∙ sym (by_sign z (λ g. absurd (omega arith)) (λ g k. negative_below z k)))
     (λ h. le-ltb a b h ∙ sym (by_sign z (λ g. not_negative z (omega arith)) (λ g k. absurd (omega arith))))
 
--- A test of a chain that gave 0 did not hold, and neither did those after it.
-pub record Passed (t : Bool) (rest : ℕ) : Type 0 where
-  pub not : t ≡ false
-  pub on : rest ≡ 0
-
-pub pass : (t : Bool) (k rest : ℕ) → cond t (suc k) rest ≡ 0 → Passed t rest
-pass true k rest e = absurd (omega arith)
-pass false k rest e = record { not = refl; on = e }
-
 -- What a record without a fault satisfies.
 pub record SoilClean (units aquifers : ℕ) (u : UnitRecord) (cover soil hectares : ℕ) : Type 0 where
   pub after : (units ≡ 0 → ⊥)
@@ -101,14 +95,14 @@ pub record SoilClean (units aquifers : ℕ) (u : UnitRecord) (cover soil hectare
   pub area : u.hectares + hectares ≤ 300000
 
 pub soil_clean : (units aquifers : ℕ) (u : UnitRecord) (cover soil hectares : ℕ)
-    → soil_fault units aquifers u cover soil hectares ≡ 0 → SoilClean units aquifers u cover soil hectares
+    → soil_fault units aquifers u cover soil hectares ≡ Ok tt → SoilClean units aquifers u cover soil hectares
 soil_clean units aquifers u cover soil hectares e =
-    let p₁ = pass (ltb 0 aquifers) 2 _ e in
-    let p₂ = pass (eqb units 0) 2 _ p₁.on in
-    let p₃ = pass (ltb 0 u.years) 2 _ p₂.on in
-    let p₄ = pass (leb 16 u.soils) 3 _ p₃.on in
-    let p₅ = pass (soil_outside cover soil hectares) 4 _ p₄.on in
-    let p₆ = pass (ltb 300000 (u.hectares + hectares)) 6 _ p₅.on in
+    let p₁ = pass (ltb 0 aquifers) _ _ e in
+    let p₂ = pass (eqb units 0) _ _ p₁.on in
+    let p₃ = pass (ltb 0 u.years) _ _ p₂.on in
+    let p₄ = pass (leb 16 u.soils) _ _ p₃.on in
+    let p₅ = pass (soil_outside cover soil hectares) _ _ p₄.on in
+    let p₆ = pass (ltb 300000 (u.hectares + hectares)) _ _ p₅.on in
     let o₁ = p₅.not in
     let o₂ = or_right (ltb cover 1) _ o₁ in
     let o₃ = or_right (ltb 14 cover) _ o₂ in
@@ -156,14 +150,14 @@ pub record RainClean (units aquifers : ℕ) (u : UnitRecord) (m : Measure) (dept
   pub room : u.years < 50
   pub most : in_tenths m depth ≤ 21500
 
-pub rain_clean : (units aquifers : ℕ) (u : UnitRecord) (m : Measure) (depth : ℕ) → rain_fault units aquifers u m depth ≡ 0
+pub rain_clean : (units aquifers : ℕ) (u : UnitRecord) (m : Measure) (depth : ℕ) → rain_fault units aquifers u m depth ≡ Ok tt
     → RainClean units aquifers u m depth
 rain_clean units aquifers u m depth e =
-    let p₁ = pass (ltb 0 aquifers) 2 _ e in
-    let p₂ = pass (eqb units 0) 2 _ p₁.on in
-    let p₃ = pass (eqb u.soils 0) 2 _ p₂.on in
-    let p₄ = pass (leb 50 u.years) 3 _ p₃.on in
-    let p₅ = pass (rain_outside m depth) 4 _ p₄.on in
+    let p₁ = pass (ltb 0 aquifers) _ _ e in
+    let p₂ = pass (eqb units 0) _ _ p₁.on in
+    let p₃ = pass (eqb u.soils 0) _ _ p₂.on in
+    let p₄ = pass (leb 50 u.years) _ _ p₃.on in
+    let p₅ = pass (rain_outside m depth) _ _ p₄.on in
     record {
       after = eqb-false units 0 p₂.not;
       before = omega (arith, ltb-false 0 aquifers p₁.not);
@@ -180,13 +174,13 @@ pub record GaugeClean (units aquifers : ℕ) (u : UnitRecord) (outside : Bool) :
   pub inside : outside ≡ false
 
 pub gauge_clean : (units aquifers : ℕ) (u : UnitRecord) (outside : Bool)
-    → gauge_fault units aquifers u outside ≡ 0 → GaugeClean units aquifers u outside
+    → gauge_fault units aquifers u outside ≡ Ok tt → GaugeClean units aquifers u outside
 gauge_clean units aquifers u outside e =
-    let p₁ = pass (ltb 0 aquifers) 2 _ e in
-    let p₂ = pass (eqb units 0) 2 _ p₁.on in
-    let p₃ = pass (ltb 0 u.soils) 2 _ p₂.on in
-    let p₄ = pass (leb 50 u.years) 3 _ p₃.on in
-    let p₅ = pass outside 4 _ p₄.on in
+    let p₁ = pass (ltb 0 aquifers) _ _ e in
+    let p₂ = pass (eqb units 0) _ _ p₁.on in
+    let p₃ = pass (ltb 0 u.soils) _ _ p₂.on in
+    let p₄ = pass (leb 50 u.years) _ _ p₃.on in
+    let p₅ = pass outside _ _ p₄.on in
     record {
       after = eqb-false units 0 p₂.not;
       before = omega (arith, ltb-false 0 aquifers p₁.not);

@@ -1,9 +1,11 @@
--- The refusals of reading (document 01, "What each operation refuses"; document 02 [1]), by number, first match wins; 0 where none applies.
+-- The refusals of reading (document 01, "What each operation refuses"; document 02 [1]), first match wins.
 -- They work on the number of units and aquifers read so far and on the open unit. Assumes nothing.
 use Rattle.std.specs.Prelude.{ℕ, ◌+◌, ◌*◌, ◌≤◌, ◌≡◌, Bool, cond, ◌&&◌, ◌||◌, List, eqb, leb, ltb, ℤ, pos}
 use Rattle.std.specs.Int.Signed.{lt_z}
 use Rattle.laws.specs.Signed.{above, below}
+use Rattle.model.specs.declared.Refusal.TheVariants.{OutOfSequence, TooMany, OutsideValues, FewYears, LargeUnit, BadDownstream, BadGauge, NegativeRecharge}
 use Rattle.model.specs.declared.Aquifer.{Aquifer}
+use Rattle.model.specs.Answers.{Answer, accepted, refuse}
 use Rattle.model.specs.Limits.{unit_limit, aquifer_limit, term_limit}
 use Rattle.river.specs.Wells.{recharge}
 use Rattle.runoff.specs.Mean.{divisor}
@@ -31,10 +33,11 @@ terms_outside extraction exports imports returns evaporation =
 abbrev pub bad_gauge : ℕ → ℕ → ℤ → Bool
 bad_gauge soils years sum = eqb soils 0 && (lt_z sum (pos 0) || lt_z (pos (term_limit * years)) sum)
 
-abbrev pub closing_by : ℕ → ℕ → ℕ → ℤ → ℕ
-closing_by units soils years sum = cond (eqb units 0) 0 (cond (ltb years 20) 6 (cond (bad_gauge soils years sum) 9 0))
+abbrev pub closing_by : ℕ → ℕ → ℕ → ℤ → Answer
+closing_by units soils years sum =
+    cond (eqb units 0) accepted (refuse FewYears (ltb years 20) (refuse BadGauge (bad_gauge soils years sum) accepted))
 
-abbrev pub closing_fault : ℕ → UnitRecord → ℕ
+abbrev pub closing_fault : ℕ → UnitRecord → Answer
 closing_fault units u = closing_by units u.soils u.years u.sum
 
 -- UN: all but storage are terms, and the commitment of a unit that is not an outlet is 0.
@@ -51,12 +54,12 @@ abbrev pub not_onward : ℕ → ℕ → Bool
 not_onward downstream own = ltb 0 downstream && leb downstream own
 
 -- UN: 3 after AC; 4 a 65th unit; 5 a field outside its values; 8 downstream not 0 and not above its own number.
-abbrev pub unit_fault : ℕ → ℕ → UnitRecord → ℕ
+abbrev pub unit_fault : ℕ → ℕ → UnitRecord → Answer
 unit_fault units aquifers u =
-    cond (ltb 0 aquifers) 3
-    (cond (leb unit_limit units) 4
-    (cond (unit_outside u) 5
-    (cond (not_onward u.downstream (units + 1)) 8 0)))
+    refuse OutOfSequence (ltb 0 aquifers)
+    (refuse TooMany (leb unit_limit units)
+    (refuse OutsideValues (unit_outside u)
+    (refuse BadDownstream (not_onward u.downstream (units + 1)) accepted)))
 
 -- SU: cover 1–14, soil 1–3, hectares 1–300,000.
 abbrev pub soil_outside : ℕ → ℕ → ℕ → Bool
@@ -64,14 +67,14 @@ soil_outside cover soil hectares =
     ltb cover 1 || (ltb 14 cover || (ltb soil 1 || (ltb 3 soil || (ltb hectares 1 || ltb 300000 hectares))))
 
 -- SU: 3 after AC, before any UN, after a year; 4 a 17th SU; 5 a field outside its values; 7 unit above 300,000 hectares.
-abbrev pub soil_fault : ℕ → ℕ → UnitRecord → ℕ → ℕ → ℕ → ℕ
+abbrev pub soil_fault : ℕ → ℕ → UnitRecord → ℕ → ℕ → ℕ → Answer
 soil_fault units aquifers u cover soil hectares =
-    cond (ltb 0 aquifers) 3
-    (cond (eqb units 0) 3
-    (cond (ltb 0 u.years) 3
-    (cond (leb 16 u.soils) 4
-    (cond (soil_outside cover soil hectares) 5
-    (cond (ltb 300000 (u.hectares + hectares)) 7 0)))))
+    refuse OutOfSequence (ltb 0 aquifers)
+    (refuse OutOfSequence (eqb units 0)
+    (refuse OutOfSequence (ltb 0 u.years)
+    (refuse TooMany (leb 16 u.soils)
+    (refuse OutsideValues (soil_outside cover soil hectares)
+    (refuse LargeUnit (ltb 300000 (u.hectares + hectares)) accepted)))))
 
 -- PR: 350 to 2150 mm. PD: 3500 to 21500 tenths.
 abbrev pub rain_outside : Measure → ℕ → Bool
@@ -79,13 +82,13 @@ rain_outside Millimetres mm = ltb mm 350 || ltb 2150 mm
 rain_outside Tenths p = ltb p 3500 || ltb 21500 p
 
 -- PR, and PD as PR is: 3 after AC, before any UN, without SU; 4 a 51st year of either mark; 5 rain outside its values.
-abbrev pub rain_fault : ℕ → ℕ → UnitRecord → Measure → ℕ → ℕ
+abbrev pub rain_fault : ℕ → ℕ → UnitRecord → Measure → ℕ → Answer
 rain_fault units aquifers u measure depth =
-    cond (ltb 0 aquifers) 3
-    (cond (eqb units 0) 3
-    (cond (eqb u.soils 0) 3
-    (cond (leb 50 u.years) 4
-    (cond (rain_outside measure depth) 5 0))))
+    refuse OutOfSequence (ltb 0 aquifers)
+    (refuse OutOfSequence (eqb units 0)
+    (refuse OutOfSequence (eqb u.soils 0)
+    (refuse TooMany (leb 50 u.years)
+    (refuse OutsideValues (rain_outside measure depth) accepted))))
 
 -- AF: outflow and inflow at most 2,000,000,000, the other five terms, and a storage change.
 abbrev pub gauge_outside_by : ℕ → ℕ → Bool → ℤ → Bool
@@ -103,20 +106,20 @@ gauge_outside_at s at =
     (bits32 s (at + 22)) (bits32 s (at + 26)) (signed_bits32 s (at + 30))
 
 -- AF: 3 after AC, before any UN, after SU; 4 a 51st year; 5 a field outside its values.
-abbrev pub gauge_fault : ℕ → ℕ → UnitRecord → Bool → ℕ
+abbrev pub gauge_fault : ℕ → ℕ → UnitRecord → Bool → Answer
 gauge_fault units aquifers u outside =
-    cond (ltb 0 aquifers) 3
-    (cond (eqb units 0) 3
-    (cond (ltb 0 u.soils) 3
-    (cond (leb 50 u.years) 4
-    (cond outside 5 0))))
+    refuse OutOfSequence (ltb 0 aquifers)
+    (refuse OutOfSequence (eqb units 0)
+    (refuse OutOfSequence (ltb 0 u.soils)
+    (refuse TooMany (leb 50 u.years)
+    (refuse OutsideValues outside accepted))))
 
 -- A year, by its kind: PR or PD, or AF.
 abbrev pub gauged_outside : Gauged → Bool
 gauged_outside y =
     gauge_outside y.outflow y.inflow y.extraction y.exports y.imports y.returns y.evaporation y.storage
 
-abbrev pub year_fault : ℕ → ℕ → UnitRecord → Year → ℕ
+abbrev pub year_fault : ℕ → ℕ → UnitRecord → Year → Answer
 year_fault units aquifers u (of_rain r) = rain_fault units aquifers u r.measure r.depth
 year_fault units aquifers u (of_gauge y) = gauge_fault units aquifers u (gauged_outside y)
 
@@ -126,9 +129,9 @@ aquifer_outside a =
     not_term a.natural || (not_term a.pumped || (not_term a.committed || (not_term a.extraction || not_storage a.storage)))
 
 -- AC: 4 a 33rd aquifer; 5 a field outside its values; 11 recharge negative.
-abbrev pub aquifer_fault : ℕ → Aquifer → ℕ
+abbrev pub aquifer_fault : ℕ → Aquifer → Answer
 aquifer_fault aquifers a =
-    cond (leb aquifer_limit aquifers) 4 (cond (aquifer_outside a) 5 (cond (lt_z (recharge a) (pos 0)) 11 0))
+    refuse TooMany (leb aquifer_limit aquifers) (refuse OutsideValues (aquifer_outside a) (refuse NegativeRecharge (lt_z (recharge a) (pos 0)) accepted))
 
 -- What holds of the open unit at every record, since each record that grew it was tested: its numbers are small enough to be added up,
 -- and rain years do not sum below 0.

@@ -1,5 +1,5 @@
 -- The marks of a book and the records of a description (document 01, "The book"; document 02 [1] and [2]). Assumes nothing.
-use Rattle.std.specs.Prelude.{ℕ, ◌+◌, Bool, true, false, cond, ◌&&◌, List, eqb, ℤ, pos, ◌+ℤ◌}
+use Rattle.std.specs.Prelude.{ℕ, ◌+◌, Bool, true, false, cond, ◌&&◌, List, eqb, ℤ, pos, ◌+ℤ◌, Option, Some, None, is_some}
 use Rattle.runoff.specs.Soil.{weighted}
 use Rattle.runoff.specs.Year.{gauged_year}
 use Rattle.runoff.specs.Mean.{natural_runoff}
@@ -7,9 +7,9 @@ use Rattle.model.specs.declared.Unit.{Unit}
 use Rattle.model.specs.declared.Aquifer.{Aquifer}
 use Rattle.record.specs.declared.UnitRecord.{UnitRecord}
 use Rattle.record.specs.declared.Mark.{Mark}
-use Rattle.record.specs.declared.Mark.TheVariants.{Un, Su, Pr, Pd, Af, Ac, Call, Unknown}
+use Rattle.record.specs.declared.Mark.TheVariants.{Un, Su, Pr, Pd, Af, Ac, Call}
 use Rattle.record.specs.declared.CallMark.{CallMark}
-use Rattle.record.specs.declared.CallMark.TheVariants.{Gu, Ga, Tu, Ta, Gw, Ca, None}
+use Rattle.record.specs.declared.CallMark.TheVariants.{Gu, Ga, Tu, Ta, Gw, Ca}
 use Rattle.record.specs.Bytes.{bits8, bits32, signed_bits32}
 
 -- The two letters stand at the two bytes.
@@ -17,40 +17,31 @@ abbrev pub spells : ℕ → ℕ → ℕ → ℕ → Bool
 spells a b x y = eqb a x && eqb b y
 
 -- The marks of the calls, in ASCII: GU, GA, TU, TA, GW, CA.
-abbrev pub call_mark : ℕ → ℕ → CallMark
+abbrev pub call_mark : ℕ → ℕ → Option CallMark
 call_mark a b =
-    cond (spells a b 71 85) Gu
-    (cond (spells a b 71 65) Ga
-    (cond (spells a b 84 85) Tu
-    (cond (spells a b 84 65) Ta
-    (cond (spells a b 71 87) Gw
-    (cond (spells a b 67 65) Ca
+    cond (spells a b 71 85) (Some Gu)
+    (cond (spells a b 71 65) (Some Ga)
+    (cond (spells a b 84 85) (Some Tu)
+    (cond (spells a b 84 65) (Some Ta)
+    (cond (spells a b 71 87) (Some Gw)
+    (cond (spells a b 67 65) (Some Ca)
     None)))))
 
 -- The two bytes are one of them.
-abbrev pub marks_call : CallMark → Bool
-marks_call Gu = true
-marks_call Ga = true
-marks_call Tu = true
-marks_call Ta = true
-marks_call Gw = true
-marks_call Ca = true
-marks_call None = false
-
 abbrev pub is_call : ℕ → ℕ → Bool
-is_call a b = marks_call (call_mark a b)
+is_call a b = is_some (call_mark a b)
 
 -- The marks: PR, AF, PD, SU, UN and AC of a description, and those of the calls.
-abbrev pub mark_of : ℕ → ℕ → Mark
+abbrev pub mark_of : ℕ → ℕ → Option Mark
 mark_of a b =
-    cond (spells a b 80 82) Pr
-    (cond (spells a b 65 70) Af
-    (cond (spells a b 80 68) Pd
-    (cond (spells a b 83 85) Su
-    (cond (spells a b 85 78) Un
-    (cond (spells a b 65 67) Ac
-    (cond (is_call a b) Call
-    Unknown))))))
+    cond (spells a b 80 82) (Some Pr)
+    (cond (spells a b 65 70) (Some Af)
+    (cond (spells a b 80 68) (Some Pd)
+    (cond (spells a b 83 85) (Some Su)
+    (cond (spells a b 85 78) (Some Un)
+    (cond (spells a b 65 67) (Some Ac)
+    (cond (is_call a b) (Some Call)
+    None))))))
 
 -- The fields of the UN at an offset, and the sums of no records.
 abbrev pub unit_record : List ℕ → ℕ → UnitRecord

@@ -11,18 +11,12 @@ pub fn bits8(s: &[u8], i: usize) -> u8
     s[i]
 }
 
-fn wide(x: u8) -> u32
-    ensures { (result ≡ x) × (result < 256) }
-{
-    x as u32
-}
-
 // 16 bits.
 pub fn bits16(s: &[u8], i: usize) -> u32
     requires { i + 2 ≤ length s.now }
     ensures { Half s.now i result }
 {
-    wide(s[i]) + 256 * wide(s[i + 1])
+    u32::from(s[i]) + 256 * u32::from(s[i + 1])
 }
 
 // 32 bits.

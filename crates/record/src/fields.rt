@@ -14,78 +14,37 @@ use runoff::{Gauged, Plot, Years};
 pub fn spells(a: u8, b: u8, x: u8, y: u8) -> bool
     ensures { result ≡ records.spells a b x y }
 {
-    if a != x {
-        return false;
-    }
-    b == y
+    [a, b] == [x, y]
 }
 
 // The call that two bytes are the mark of, if they are.
-pub(crate) fn call_mark(a: u8, b: u8) -> CallMark
+pub(crate) fn call_mark(a: u8, b: u8) -> Option<CallMark>
     ensures { result ≡ records.call_mark a b }
 {
-    if spells(a, b, 71, 85) {
-        return CallMark::Gu;
-    }
-    if spells(a, b, 71, 65) {
-        return CallMark::Ga;
-    }
-    if spells(a, b, 84, 85) {
-        return CallMark::Tu;
-    }
-    if spells(a, b, 84, 65) {
-        return CallMark::Ta;
-    }
-    if spells(a, b, 71, 87) {
-        return CallMark::Gw;
-    }
-    if spells(a, b, 67, 65) {
-        return CallMark::Ca;
-    }
-    CallMark::None
-}
-
-// The two bytes are a call's mark.
-fn is_call(a: u8, b: u8) -> bool
-    ensures { result ≡ records.is_call a b }
-{
-    match call_mark(a, b) {
-        CallMark::Gu => true,
-        CallMark::Ga => true,
-        CallMark::Tu => true,
-        CallMark::Ta => true,
-        CallMark::Gw => true,
-        CallMark::Ca => true,
-        CallMark::None => false,
+    match (a, b) {
+        (b'G', b'U') => Some(CallMark::Gu),
+        (b'G', b'A') => Some(CallMark::Ga),
+        (b'T', b'U') => Some(CallMark::Tu),
+        (b'T', b'A') => Some(CallMark::Ta),
+        (b'G', b'W') => Some(CallMark::Gw),
+        (b'C', b'A') => Some(CallMark::Ca),
+        _ => None,
     }
 }
 
-// The mark that two bytes are.
-pub fn mark_of(a: u8, b: u8) -> Mark
+// The mark that two bytes are, if they are one.
+pub fn mark_of(a: u8, b: u8) -> Option<Mark>
     ensures { result ≡ records.mark_of a b }
 {
-    if spells(a, b, 80, 82) {
-        return Mark::Pr;
+    match (a, b) {
+        (b'P', b'R') => Some(Mark::Pr),
+        (b'A', b'F') => Some(Mark::Af),
+        (b'P', b'D') => Some(Mark::Pd),
+        (b'S', b'U') => Some(Mark::Su),
+        (b'U', b'N') => Some(Mark::Un),
+        (b'A', b'C') => Some(Mark::Ac),
+        _ => call_mark(a, b).map(|_| Mark::Call),
     }
-    if spells(a, b, 65, 70) {
-        return Mark::Af;
-    }
-    if spells(a, b, 80, 68) {
-        return Mark::Pd;
-    }
-    if spells(a, b, 83, 85) {
-        return Mark::Su;
-    }
-    if spells(a, b, 85, 78) {
-        return Mark::Un;
-    }
-    if spells(a, b, 65, 67) {
-        return Mark::Ac;
-    }
-    if is_call(a, b) {
-        return Mark::Call;
-    }
-    Mark::Unknown
 }
 
 // A UN record, with no soil and no years yet.

@@ -1,6 +1,9 @@
 // The records of a book: their bytes, marks and fields, the faults of a description's records, and the calls.
 #![tactic(auto)]
 
+ghost use Rattle.std.specs.Prelude.{◌≡◌};
+ghost use Rattle.record.specs.Calls as ends;
+
 mod bytes;
 mod calls;
 mod fault;
@@ -12,6 +15,7 @@ pub use fault::{aquifer_fault, closing_fault, gauge_fault, rain_fault, soil_faul
 pub use fields::{
     aquifer_record, mark_of, spells, unit_of, unit_record, with_soil, with_year, year_at,
 };
+use model::{Answer, Call, Refusal};
 
 // A unit as its book describes it: the offset of its UN mark, the fields of its UN, and of the records after it how many soil records
 // there are, their hectares and weighted hectares, how many years there are and their sum (rain years in 6,000,000,000ths).
@@ -33,7 +37,15 @@ pub struct UnitRecord {
     pub sum: i64,
 }
 
-// What two bytes say as a mark.
+// How far a description is read: how many units and aquifers there are, and the open unit, which is the last.
+#[derive(Clone, Copy)]
+pub struct Progress {
+    pub units: usize,
+    pub aquifers: usize,
+    pub open: UnitRecord,
+}
+
+// The mark of a record of a description, or of a call.
 #[derive(Clone, Copy)]
 pub enum Mark {
     Un,
@@ -43,10 +55,9 @@ pub enum Mark {
     Af,
     Ac,
     Call,
-    Unknown,
 }
 
-// Which call two bytes are the mark of.
+// The mark of a call.
 #[derive(Clone, Copy)]
 pub enum CallMark {
     Gu,
@@ -55,7 +66,6 @@ pub enum CallMark {
     Ta,
     Gw,
     Ca,
-    None,
 }
 
 // What stands at an offset after the description: nothing more, a record that fails with 1 or 2, or a call and the offset of the next
@@ -63,13 +73,23 @@ pub enum CallMark {
 #[derive(Clone, Copy)]
 pub enum CallAt {
     End,
-    Fails { number: u8 },
-    Asks { call: model::Call, to: usize },
+    Fails { refusal: Refusal },
+    Asks { call: Call, to: usize },
 }
 
-// How the calls of a book end: with the book, or with a record that fails with 1 or 2 at its place.
-#[derive(Clone, Copy)]
-pub enum Ending {
-    Finished,
-    Failed { number: u8, place: usize },
+// A refusal, and its place: the offset of a mark, or the number of a unit.
+#[derive(Clone, Copy, PartialEq, Eq, Debug)]
+pub struct Failure {
+    pub refusal: Refusal,
+    pub place: usize,
 }
+
+// An answer with the place of its refusal.
+pub fn located(answer: Answer, place: usize) -> Result<(), Failure>
+    ensures { result ≡ ends.located answer place }
+{
+    answer.map_err(|refusal| Failure { refusal, place })
+}
+
+// How the calls of a book end: with the book, or with a record that is short or unknown.
+pub type Ending = Result<(), Failure>;

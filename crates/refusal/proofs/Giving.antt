@@ -5,8 +5,7 @@ use mathlib.Core.Bool.{Bool, cond, not, ◌&&◌, ◌||◌}
 use lib.Dec.{eqb}
 use native.Mathlib.Omega.{arith}
 use Rattle.laws.specs.Sum.{every}
-use Rattle.laws.proofs.Every.{every_same}
-use Rattle.reach.specs.Reach.{same_basin}
+use Rattle.model.specs.declared.Refusal.TheVariants.{ReceiverBelow}
 use Rattle.model.specs.declared.Aquifer.{Aquifer}
 use Rattle.model.specs.declared.Place.{Place}
 use Rattle.model.specs.declared.Title.{Title}
@@ -15,12 +14,20 @@ use Rattle.model.specs.Fresh.{empty_place}
 use Rattle.model.specs.View.{View}
 use Rattle.river.specs.Flow.{Ready}
 use Rattle.river.proofs.Units.{alone, SameUnits}
+use Rattle.laws.proofs.Every.{every_same, both}
+use Rattle.reach.specs.Reach.{same_basin}
+use Rattle.basin.proofs.Soundness.{number_exists}
+use Rattle.model.proofs.Answers.{pass}
+use borrow.Author.Tests.{not-false}
 use Rattle.figures.proofs.Units.{unit_figures_alone, unit_figures_same}
 use Rattle.reach.proofs.Units.{outlet_alone, below_alone, outlet_units, below_units}
 use Rattle.basin.specs.Sound.{exists}
 use Rattle.effect.specs.Granted.{Named}
 use Rattle.refusal.specs.Grant.{in_deficit, wanting, dry, drained, no_water, downstream_transfer, overfull}
-use Rattle.refusal.specs.Steps.{giving_unit, giving_aquifer, volume_number, early_number}
+use Rattle.refusal.specs.declared.Giver.TheVariants.{FromUnit, FromAquifer}
+use Rattle.refusal.specs.Steps.{giver, goes_down, missing_fault, then_answer, volume_fault, early_fault}
+use Rattle.model.specs.Answers.{refuse}
+use Rattle.model.specs.Entries.{volume_of}
 
 -- What is worked out over the units of a view alone is the same over the view.
 pub dry_alone : (v : View) (j : ℕ) → dry (alone v) j ≡ dry v j
@@ -42,17 +49,22 @@ module _ (v w : View) (s : SameUnits v w) (r : Ready v) where
   pub downstream_same : (g t : ℕ) → pred g < v.units → downstream_transfer w g t ≡ downstream_transfer v g t
   downstream_same g t h = ap (λ (b : Bool). eqb g t || b) (below_units v w s r (pred g) (pred t) h)
 
--- A view with other aquifers and titles.
-abbrev with_others : View → ℕ → (ℕ → Aquifer) → (ℕ → Place) → View
-with_others v m ws ps = record { units = v.units; unit = v.unit; aquifers = m; aquifer = ws; given = v.given; place = ps }
+-- Whether a transfer goes down is asked of the units alone.
+pub goes_down_alone : (v : View) (t : Title) → goes_down (alone v) t ≡ goes_down v t
+goes_down_alone v (UnitWithdrawal u r x) = refl
+goes_down_alone v (AquiferWithdrawal a x) = refl
+goes_down_alone v (UnitTransfer g r x) = downstream_alone v g r
+goes_down_alone v (AquiferTransfer a u x) = refl
+goes_down_alone v (ReturningWithdrawal a u r x) = refl
 
--- The early refusals of a transfer between units look at nothing but the units and how many numbers were given.
-pub transfer_others : (v : View) (m : ℕ) (ws : ℕ → Aquifer) (ps : ℕ → Place) (g r x : ℕ)
-    → early_number (with_others v m ws ps) (UnitTransfer g r x) ≡ early_number v (UnitTransfer g r x)
-transfer_others v m ws ps g r x =
-    let w = with_others v m ws ps in
-    ap (λ (b : Bool). cond (exists v.units g && exists v.units r) (cond b 18 (volume_number v.given x (overfull v (UnitTransfer g r x)))) 12)
-    (sym (downstream_alone w g r) ∙ downstream_alone v g r)
+pub goes_down_same : (v w : View) → SameUnits v w → Ready v → (m : ℕ) (t : Title) → missing_fault v.units m t ≡ Ok tt → goes_down w t ≡ goes_down v t
+goes_down_same v w s r m (UnitWithdrawal u x y) e = refl
+goes_down_same v w s r m (AquiferWithdrawal a x) e = refl
+goes_down_same v w s r m (UnitTransfer g t x) e =
+    let n = number_exists v.units g (both (exists v.units g) _ (not-false _ (pass (not (exists v.units g && exists v.units t)) _ _ e).not)).0 in
+    downstream_same v w s r g t (omega (arith, n.positive, n.within))
+goes_down_same v w s r m (AquiferTransfer a u x) e = refl
+goes_down_same v w s r m (ReturningWithdrawal a u x y) e = refl
 
 -- A view without its titles, with so many numbers given.
 abbrev pub untitled : View → ℕ → View
@@ -60,12 +72,10 @@ untitled v given =
     record { units = v.units; unit = v.unit; aquifers = v.aquifers; aquifer = v.aquifer; given = given; place = λ k. empty_place }
 
 -- What a grant refuses before its water is looked at does not depend on the titles, but on how many numbers were given.
-pub early_untitled : (v : View) (t : Title) → early_number (untitled v v.given) t ≡ early_number v t
-early_untitled v (UnitWithdrawal u r x) = refl
-early_untitled v (AquiferWithdrawal a x) = refl
-early_untitled v (UnitTransfer g r x) = transfer_others v v.aquifers v.aquifer (λ k. empty_place) g r x
-early_untitled v (AquiferTransfer a u x) = refl
-early_untitled v (ReturningWithdrawal a u r x) = refl
+pub early_untitled : (v : View) (t : Title) → early_fault (untitled v v.given) t ≡ early_fault v t
+early_untitled v t =
+    ap (λ (b : Bool). then_answer (missing_fault v.units v.aquifers t) (refuse ReceiverBelow b (volume_fault v.given (volume_of t) (overfull v t))))
+    (sym (goes_down_alone (untitled v v.given) t) ∙ goes_down_alone v t)
 
 -- Nor does 17 depend on them.
 pub water_untitled : (v : View) (given : ℕ) (t : Title) → no_water (untitled v given) t ≡ no_water v t
@@ -75,27 +85,40 @@ water_untitled v given (UnitTransfer g r x) = sym (dry_alone (untitled v given) 
 water_untitled v given (AquiferTransfer a u x) = refl
 water_untitled v given (ReturningWithdrawal a u r x) = refl
 
--- Where a unit gives, it is there, and there is no water where its basin is dry.
-pub record UnitGives (v : View) (t : Title) : Type 0 where
-  pub within : giving_unit t ≤ v.units
-  pub water : no_water v t ≡ dry v (pred (giving_unit t))
+-- What gives is there, and there is no water where its basin is dry or the aquifer is drained.
+pub data Gives (v : View) (t : Title) : Type 0 where
+  from_unit : (u : ℕ) → giver t ≡ FromUnit u → 0 < u → u ≤ v.units → no_water v t ≡ dry v (pred u) → Gives v t
+  from_aquifer : (a : ℕ) → giver t ≡ FromAquifer a → 0 < a → a ≤ v.aquifers → no_water v t ≡ drained v (pred a) → Gives v t
 
-pub unit_gives : (v : View) (t : Title) → Named v t → 0 < giving_unit t → UnitGives v t
-unit_gives v (UnitWithdrawal u r x) n h = record { within = n.extraction.1; water = refl }
-unit_gives v (AquiferWithdrawal a x) n h = absurd (omega arith)
-unit_gives v (UnitTransfer g r x) n h = record { within = n.exports.1; water = refl }
-unit_gives v (AquiferTransfer a u x) n h = absurd (omega arith)
-unit_gives v (ReturningWithdrawal a u r x) n h = absurd (omega arith)
+pub gives : (v : View) (t : Title) → Named v t → Gives v t
+gives v (UnitWithdrawal u r x) n = from_unit u refl n.extraction.0 n.extraction.1 refl
+gives v (AquiferWithdrawal a x) n = from_aquifer a refl n.wells.0 n.wells.1 refl
+gives v (UnitTransfer g r x) n = from_unit g refl n.exports.0 n.exports.1 refl
+gives v (AquiferTransfer a u x) n = from_aquifer a refl n.wells.0 n.wells.1 refl
+gives v (ReturningWithdrawal a u r x) n = from_aquifer a refl n.wells.0 n.wells.1 refl
 
--- Where an aquifer gives, it is there, and there is no water where it is drained.
-pub record AquiferGives (v : View) (t : Title) : Type 0 where
-  pub positive : 0 < giving_aquifer t
-  pub within : giving_aquifer t ≤ v.aquifers
-  pub water : no_water v t ≡ drained v (pred (giving_aquifer t))
+-- The unit that gives.
+pub record UnitGives (v : View) (t : Title) (u : ℕ) : Type 0 where
+  pub positive : 0 < u
+  pub within : u ≤ v.units
+  pub water : no_water v t ≡ dry v (pred u)
 
-pub aquifer_gives : (v : View) (t : Title) → Named v t → (0 < giving_unit t → ⊥) → AquiferGives v t
-aquifer_gives v (UnitWithdrawal u r x) n h = absurd (h n.extraction.0)
-aquifer_gives v (AquiferWithdrawal a x) n h = record { positive = n.wells.0; within = n.wells.1; water = refl }
-aquifer_gives v (UnitTransfer g r x) n h = absurd (h n.exports.0)
-aquifer_gives v (AquiferTransfer a u x) n h = record { positive = n.wells.0; within = n.wells.1; water = refl }
-aquifer_gives v (ReturningWithdrawal a u r x) n h = record { positive = n.wells.0; within = n.wells.1; water = refl }
+pub unit_gives : (v : View) (t : Title) (u : ℕ) → Named v t → giver t ≡ FromUnit u → UnitGives v t u
+unit_gives v t u n e =
+    elim (gives v t n) [
+      | from_unit k g p w q ↦ let h : k ≡ u = cc in rw (sym h) (record { positive = p; within = w; water = q })
+      | from_aquifer k g p w q ↦ let z : ◌≡◌ {A = ℕ} 0 1 = cc in absurd (omega arith)
+    ]
+
+-- The aquifer that gives.
+pub record AquiferGives (v : View) (t : Title) (a : ℕ) : Type 0 where
+  pub positive : 0 < a
+  pub within : a ≤ v.aquifers
+  pub water : no_water v t ≡ drained v (pred a)
+
+pub aquifer_gives : (v : View) (t : Title) (a : ℕ) → Named v t → giver t ≡ FromAquifer a → AquiferGives v t a
+aquifer_gives v t a n e =
+    elim (gives v t n) [
+      | from_unit k g p w q ↦ let z : ◌≡◌ {A = ℕ} 0 1 = cc in absurd (omega arith)
+      | from_aquifer k g p w q ↦ let h : k ≡ a = cc in rw (sym h) (record { positive = p; within = w; water = q })
+    ]

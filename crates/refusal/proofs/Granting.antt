@@ -1,17 +1,21 @@
 -- What the early refusals leave: a title that can be put in, with entries that stay within the limit. Assumes nothing.
+use Rattle.std.specs.Prelude.{Ok, Err}
 use Prim.Native.Nat.{ℕ, suc, pred, ◌+◌, ◌≤◌, ◌<◌}
 use mathlib.Core.Path.{◌≡◌, refl, ap, subst}
 use mathlib.Core.Bool.{Bool, true, false, cond, not, ◌&&◌}
 use lib.Dec.{eqb, leb}
 use native.Mathlib.Omega.{arith}
-use borrow.Author.Tests.{ltb-false, leb-false, eq-eqb, ne_eqb}
+use borrow.Author.Tests.{ltb-false, leb-false, eq-eqb, ne_eqb, not-false}
 use Rattle.laws.proofs.Cases.{by_eq}
 use Rattle.laws.proofs.Every.{both, neither}
+use Rattle.model.specs.declared.Refusal.TheVariants.{NoSuchPlace, NoSuchUse, BadVolume, NumbersGiven, EntryFull, NoWater, ReceiverBelow}
 use Rattle.model.specs.declared.Title.{Title}
 use Rattle.model.specs.declared.Title.TheVariants.{UnitWithdrawal, AquiferWithdrawal, UnitTransfer, AquiferTransfer, ReturningWithdrawal}
 use Rattle.model.specs.View.{View}
 use Rattle.model.specs.Limits.{term_limit}
-use Rattle.model.specs.Answers.{Refusal, none, number, refuse}
+use Rattle.model.specs.Answers.{Answer, accepted, refuse}
+use Rattle.model.specs.Entries.{volume_of}
+use Rattle.model.proofs.Answers.{not_accepted, pass}
 use Rattle.titles.specs.Posting.{Posting, nothing, post, posts, postings}
 use Rattle.titles.specs.Adds.{return_of}
 use Rattle.river.specs.Flow.{Ready}
@@ -21,55 +25,53 @@ use Rattle.basin.proofs.Soundness.{UnitSound, AquiferSound, Exists, Volume, Titl
 use Rattle.effect.specs.Room.{There, Names, Takes, UnitsTake, WellsTake}
 use Rattle.effect.specs.Granted.{granted, Named, lacking}
 use Rattle.refusal.specs.Grant.{overfills, overfull, downstream_transfer, no_water, grant_refusal}
-use Rattle.refusal.specs.Steps.{volume_number, early_number}
+use Rattle.refusal.specs.Steps.{volume_fault, early_fault, missing_fault, goes_down, then_answer}
 
--- The early refusals and the grant's: under its number, or what follows.
-abbrev pub judged : ℕ → Refusal → Refusal
-judged n w = cond (eqb n 0) w (number n)
-
-volume_judged : (c d e : Bool) (w : Refusal)
-    → refuse 14 (not c) (refuse 15 d (refuse 16 e w)) ≡ judged (cond c (cond d 15 (cond e 16 0)) 14) w
+-- What is refused early is refused, whatever follows.
+volume_judged : (c d e : Bool) (w : Answer)
+    → refuse BadVolume (not c) (refuse NumbersGiven d (refuse EntryFull e w))
+    ≡ then_answer (refuse BadVolume (not c) (refuse NumbersGiven d (refuse EntryFull e accepted))) w
 volume_judged true true e w = refl
 volume_judged true false true w = refl
 volume_judged true false false w = refl
 volume_judged false d e w = refl
 
-one_judged : (a : Bool) (n : ℕ) (r w : Refusal) → r ≡ judged n w → refuse 12 (not a) r ≡ judged (cond a n 12) w
-one_judged true n r w e = e
-one_judged false n r w e = refl
+way_judged : (b : Bool) (x r w : Answer) → r ≡ then_answer x w → refuse ReceiverBelow b r ≡ then_answer (refuse ReceiverBelow b x) w
+way_judged true x r w e = refl
+way_judged false x r w e = e
 
-use_judged : (b : Bool) (n : ℕ) (r w : Refusal) → r ≡ judged n w → refuse 13 (not b) r ≡ judged (cond b n 13) w
-use_judged true n r w e = e
-use_judged false n r w e = refl
+place_judged : (a : Bool) (x r w : Answer) → r ≡ then_answer x w
+    → refuse NoSuchPlace (not a) r ≡ then_answer (then_answer (refuse NoSuchPlace (not a) accepted) x) w
+place_judged true x r w e = e
+place_judged false x r w e = refl
 
-way_judged : (b : Bool) (n : ℕ) (r w : Refusal) → r ≡ judged n w → refuse 18 b r ≡ judged (cond b 18 n) w
-way_judged true n r w e = refl
-way_judged false n r w e = e
+use_judged : (a b : Bool) (x r w : Answer) → r ≡ then_answer x w
+    → refuse NoSuchPlace (not a) (refuse NoSuchUse (not b) r)
+    ≡ then_answer (then_answer (refuse NoSuchPlace (not a) (refuse NoSuchUse (not b) accepted)) x) w
+use_judged true true x r w e = e
+use_judged true false x r w e = refl
+use_judged false b x r w e = refl
 
--- A grant is refused under its early number, or with 17 if there is no water with the title in.
-pub grant_judged : (v : View) (t : Title) → grant_refusal v t ≡ judged (early_number v t) (refuse 17 (no_water (granted v t) t) none)
+-- A grant is refused as early, or for want of water with the title in.
+pub grant_judged : (v : View) (t : Title) → grant_refusal v t ≡ then_answer (early_fault v t) (refuse NoWater (no_water (granted v t) t) (Ok tt))
 grant_judged v (UnitWithdrawal u r x) =
-    one_judged (exists v.units u) _ _ _ (use_judged (exists 7 r) _ _ _ (volume_judged (is_volume x) (leb 256 v.given) (overfull v (UnitWithdrawal u r x)) _))
+    use_judged (exists v.units u) (exists 7 r) _ _ _ (volume_judged (is_volume x) (leb 256 v.given) (overfull v (UnitWithdrawal u r x)) _)
 grant_judged v (AquiferWithdrawal a x) =
-    one_judged (exists v.aquifers a) _ _ _ (volume_judged (is_volume x) (leb 256 v.given) (overfull v (AquiferWithdrawal a x)) _)
+    place_judged (exists v.aquifers a) _ _ _ (volume_judged (is_volume x) (leb 256 v.given) (overfull v (AquiferWithdrawal a x)) _)
 grant_judged v (UnitTransfer g r x) =
-    one_judged (exists v.units g && exists v.units r) _ _ _
+    place_judged (exists v.units g && exists v.units r) _ _ _
     (way_judged (downstream_transfer v g r) _ _ _ (volume_judged (is_volume x) (leb 256 v.given) (overfull v (UnitTransfer g r x)) _))
 grant_judged v (AquiferTransfer a u x) =
-    one_judged (exists v.aquifers a && exists v.units u) _ _ _
+    place_judged (exists v.aquifers a && exists v.units u) _ _ _
     (volume_judged (is_volume x) (leb 256 v.given) (overfull v (AquiferTransfer a u x)) _)
 grant_judged v (ReturningWithdrawal a u r x) =
-    one_judged (exists v.aquifers a && exists v.units u) _ _ _
-    (use_judged (exists 7 r) _ _ _ (volume_judged (is_volume x) (leb 256 v.given) (overfull v (ReturningWithdrawal a u r x)) _))
+    use_judged (exists v.aquifers a && exists v.units u) (exists 7 r) _ _ _
+    (volume_judged (is_volume x) (leb 256 v.given) (overfull v (ReturningWithdrawal a u r x)) _)
 
--- A number that is 0 was given by no test.
-held : (t : Bool) (a n : ℕ) → cond t a (suc n) ≡ 0 → (t ≡ true) × (a ≡ 0)
-held true a n e = (refl, e)
-held false a n e = absurd (omega arith)
-
-passed : (t : Bool) (a n : ℕ) → cond t (suc n) a ≡ 0 → (t ≡ false) × (a ≡ 0)
-passed true a n e = absurd (omega arith)
-passed false a n e = (refl, e)
+-- An answer accepts with what follows it exactly where both accept.
+pub both_accept : (x y : Answer) → then_answer x y ≡ Ok tt → (x ≡ Ok tt) × (y ≡ Ok tt)
+both_accept (Ok u) y e = (refl, e)
+both_accept (Err r) y e = absurd (not_accepted r e)
 
 -- What holds of a title that no early refusal meets.
 pub record Granting (v : View) (t : Title) : Type 0 where
@@ -89,44 +91,37 @@ record Room (given x : ℕ) (over : Bool) : Type 0 where
   room : given < 256
   fits : over ≡ false
 
-room_of : (given x : ℕ) (over : Bool) → volume_number given x over ≡ 0 → Room given x over
+room_of : (given x : ℕ) (over : Bool) → volume_fault given x over ≡ Ok tt → Room given x over
 room_of given x over e =
-    let p = held (is_volume x) _ 13 e in
-    let q = passed (leb 256 given) _ 14 p.1 in
-    let s = passed over 0 15 q.1 in
-    record { volume = is_volume_lem x p.0; room = leb-false 256 given q.0; fits = s.0 }
+    let p = pass (not (is_volume x)) _ _ e in
+    let q = pass (leb 256 given) _ _ p.on in
+    let s = pass over _ _ q.on in
+    record { volume = is_volume_lem x (not-false _ p.not); room = leb-false 256 given q.not; fits = s.not }
 
-passing_of : (v : View) (t : Title) → early_number v t ≡ 0 → Passing v t
-passing_of v (UnitWithdrawal u r x) e =
-    let p = held (exists v.units u) _ 11 e in
-    let q = held (exists 7 r) _ 12 p.1 in
-    let f = room_of v.given x (overfull v (UnitWithdrawal u r x)) q.1 in
-    record { room = f.room; fits = f.fits; titled = (number_exists v.units u p.0, number_exists 7 r q.0, f.volume) }
-passing_of v (AquiferWithdrawal a x) e =
-    let p = held (exists v.aquifers a) _ 11 e in
-    let f = room_of v.given x (overfull v (AquiferWithdrawal a x)) p.1 in
-    record { room = f.room; fits = f.fits; titled = (number_exists v.aquifers a p.0, f.volume) }
-passing_of v (UnitTransfer g r x) e =
-    let p = held (exists v.units g && exists v.units r) _ 11 e in
-    let w = passed (downstream_transfer v g r) _ 17 p.1 in
-    let f = room_of v.given x (overfull v (UnitTransfer g r x)) w.1 in
-    let b = both (exists v.units g) _ p.0 in
-    record { room = f.room; fits = f.fits; titled = (number_exists v.units g b.0, number_exists v.units r b.1, f.volume) }
-passing_of v (AquiferTransfer a u x) e =
-    let p = held (exists v.aquifers a && exists v.units u) _ 11 e in
-    let f = room_of v.given x (overfull v (AquiferTransfer a u x)) p.1 in
-    let b = both (exists v.aquifers a) _ p.0 in
-    record { room = f.room; fits = f.fits; titled = (number_exists v.aquifers a b.0, number_exists v.units u b.1, f.volume) }
-passing_of v (ReturningWithdrawal a u r x) e =
-    let p = held (exists v.aquifers a && exists v.units u) _ 11 e in
-    let q = held (exists 7 r) _ 12 p.1 in
-    let f = room_of v.given x (overfull v (ReturningWithdrawal a u r x)) q.1 in
-    let b = both (exists v.aquifers a) _ p.0 in
-    record {
-      room = f.room;
-      fits = f.fits;
-      titled = (number_exists v.aquifers a b.0, number_exists v.units u b.1, number_exists 7 r q.0, f.volume);
-    }
+-- A title that names what is there.
+titled_of : (units aquifers : ℕ) (t : Title) → missing_fault units aquifers t ≡ Ok tt → Volume (volume_of t) → TitleSound units aquifers t
+titled_of units aquifers (UnitWithdrawal u r x) e o =
+    let p = pass (not (exists units u)) _ _ e in
+    let q = pass (not (exists 7 r)) _ _ p.on in
+    (number_exists units u (not-false _ p.not), number_exists 7 r (not-false _ q.not), o)
+titled_of units aquifers (AquiferWithdrawal a x) e o = (number_exists aquifers a (not-false _ (pass (not (exists aquifers a)) _ _ e).not), o)
+titled_of units aquifers (UnitTransfer g r x) e o =
+    let b = both (exists units g) _ (not-false _ (pass (not (exists units g && exists units r)) _ _ e).not) in
+    (number_exists units g b.0, number_exists units r b.1, o)
+titled_of units aquifers (AquiferTransfer a u x) e o =
+    let b = both (exists aquifers a) _ (not-false _ (pass (not (exists aquifers a && exists units u)) _ _ e).not) in
+    (number_exists aquifers a b.0, number_exists units u b.1, o)
+titled_of units aquifers (ReturningWithdrawal a u r x) e o =
+    let p = pass (not (exists aquifers a && exists units u)) _ _ e in
+    let q = pass (not (exists 7 r)) _ _ p.on in
+    let b = both (exists aquifers a) _ (not-false _ p.not) in
+    (number_exists aquifers a b.0, number_exists units u b.1, number_exists 7 r (not-false _ q.not), o)
+
+passing_of : (v : View) (t : Title) → early_fault v t ≡ Ok tt → Passing v t
+passing_of v t e =
+    let b = both_accept (missing_fault v.units v.aquifers t) _ e in
+    let f = room_of v.given (volume_of t) (overfull v t) (pass (goes_down v t) _ _ b.1).on in
+    record { room = f.room; fits = f.fits; titled = titled_of v.units v.aquifers t b.0 f.volume }
 
 -- What a sound title names is there.
 there : (count n : ℕ) → Exists count n → (0 < n) × (n ≤ count)
@@ -149,7 +144,7 @@ fits : (entry : ℕ → ℕ) (count : ℕ) (p : Posting) → There count p → o
 fits entry count nothing h e = h
 fits entry count (post n a) h e = (h.0, h.1, omega (arith, ltb-false term_limit (entry (pred n) + a) e))
 
-pub granting_of : (v : View) (t : Title) → early_number v t ≡ 0 → Granting v t
+pub granting_of : (v : View) (t : Title) → early_fault v t ≡ Ok tt → Granting v t
 granting_of v t e =
     let l = passing_of v t e in
     let p = postings t (return_of t) in

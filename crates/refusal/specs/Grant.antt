@@ -1,11 +1,12 @@
 -- Granting a title, over a view of the entries (document 01, "Titles" and "What each operation refuses"; document 02 [2]). Assumes nothing.
-use Rattle.std.specs.Prelude.{ℕ, pred, ◌+◌, Bool, false, not, ◌&&◌, ◌||◌, eqb, leb, ltb}
+use Rattle.std.specs.Prelude.{ℕ, pred, ◌+◌, Bool, false, not, ◌&&◌, ◌||◌, eqb, leb, ltb, Ok}
 use Rattle.std.specs.Int.Signed.{non_neg}
 use Rattle.laws.specs.Sum.{every}
+use Rattle.model.specs.declared.Refusal.TheVariants.{NoSuchPlace, NoSuchUse, BadVolume, NumbersGiven, EntryFull, NoWater, ReceiverBelow}
 use Rattle.model.specs.declared.Title.{Title}
 use Rattle.model.specs.declared.Title.TheVariants.{UnitWithdrawal, AquiferWithdrawal, UnitTransfer, AquiferTransfer, ReturningWithdrawal}
 use Rattle.model.specs.View.{View}
-use Rattle.model.specs.Answers.{Refusal, none, refuse}
+use Rattle.model.specs.Answers.{Answer, refuse}
 use Rattle.model.specs.Limits.{title_limit, term_limit}
 use Rattle.titles.specs.Posting.{Posting, nothing, post, postings}
 use Rattle.titles.specs.Adds.{return_of}
@@ -61,26 +62,26 @@ abbrev pub downstream_transfer : View → ℕ → ℕ → Bool
 downstream_transfer v g r = eqb g r || lies_below v (pred g) (pred r)
 
 -- 14 volume 0 or above 10,000,000; 15 256 numbers given; 16; 17: what every grant refuses in the end.
-abbrev pub volume_refusal : View → Title → ℕ → Refusal
+abbrev pub volume_refusal : View → Title → ℕ → Answer
 volume_refusal v t x =
-    refuse 14 (not (is_volume x))
-    (refuse 15 (leb title_limit v.given)
-    (refuse 16 (overfull v t)
-    (refuse 17 (no_water (granted v t) t)
-    none)))
+    refuse BadVolume (not (is_volume x))
+    (refuse NumbersGiven (leb title_limit v.given)
+    (refuse EntryFull (overfull v t)
+    (refuse NoWater (no_water (granted v t) t)
+    (Ok tt))))
 
 -- What a grant refuses, first match wins: GU 12, 13, 14 to 17; GA 12, 14 to 17; TU 12, 18, 14 to 17; TA 12, 14 to 17; GW 12, which
 -- covers a missing aquifer or unit, 13, 14 to 17.
-abbrev pub grant_refusal : View → Title → Refusal
+abbrev pub grant_refusal : View → Title → Answer
 grant_refusal v (UnitWithdrawal u r x) =
-    refuse 12 (not (exists v.units u)) (refuse 13 (not (exists 7 r)) (volume_refusal v (UnitWithdrawal u r x) x))
+    refuse NoSuchPlace (not (exists v.units u)) (refuse NoSuchUse (not (exists 7 r)) (volume_refusal v (UnitWithdrawal u r x) x))
 grant_refusal v (AquiferWithdrawal a x) =
-    refuse 12 (not (exists v.aquifers a)) (volume_refusal v (AquiferWithdrawal a x) x)
+    refuse NoSuchPlace (not (exists v.aquifers a)) (volume_refusal v (AquiferWithdrawal a x) x)
 grant_refusal v (UnitTransfer g r x) =
-    refuse 12 (not (exists v.units g && exists v.units r))
-    (refuse 18 (downstream_transfer v g r) (volume_refusal v (UnitTransfer g r x) x))
+    refuse NoSuchPlace (not (exists v.units g && exists v.units r))
+    (refuse ReceiverBelow (downstream_transfer v g r) (volume_refusal v (UnitTransfer g r x) x))
 grant_refusal v (AquiferTransfer a u x) =
-    refuse 12 (not (exists v.aquifers a && exists v.units u)) (volume_refusal v (AquiferTransfer a u x) x)
+    refuse NoSuchPlace (not (exists v.aquifers a && exists v.units u)) (volume_refusal v (AquiferTransfer a u x) x)
 grant_refusal v (ReturningWithdrawal a u r x) =
-    refuse 12 (not (exists v.aquifers a && exists v.units u))
-    (refuse 13 (not (exists 7 r)) (volume_refusal v (ReturningWithdrawal a u r x) x))
+    refuse NoSuchPlace (not (exists v.aquifers a && exists v.units u))
+    (refuse NoSuchUse (not (exists 7 r)) (volume_refusal v (ReturningWithdrawal a u r x) x))

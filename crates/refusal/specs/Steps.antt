@@ -1,10 +1,15 @@
--- The steps of a grant, by the numbers of the refusals; 0 where none applies. Assumes nothing.
-use Rattle.std.specs.Prelude.{ℕ, Bool, cond, not, ◌&&◌, List, [], eqb, leb, get_or}
+-- The steps of a grant. Assumes nothing.
+use Rattle.std.specs.Prelude.{ℕ, Bool, true, false, cond, not, ◌&&◌, List, [], eqb, leb, get_or, Ok, Err}
 use Rattle.laws.specs.Sum.{every}
+use Rattle.model.specs.declared.Refusal.TheVariants.{NoSuchPlace, NoSuchUse, BadVolume, NumbersGiven, EntryFull, ReceiverBelow}
 use Rattle.model.specs.declared.Unit.{Unit}
 use Rattle.model.specs.declared.Aquifer.{Aquifer}
 use Rattle.model.specs.declared.Title.{Title}
 use Rattle.model.specs.declared.Title.TheVariants.{UnitWithdrawal, AquiferWithdrawal, UnitTransfer, AquiferTransfer, ReturningWithdrawal}
+use Rattle.model.specs.Entries.{volume_of}
+use Rattle.model.specs.Answers.{Answer, accepted, refuse}
+use Rattle.refusal.specs.declared.Giver.{Giver}
+use Rattle.refusal.specs.declared.Giver.TheVariants.{FromUnit, FromAquifer}
 use Rattle.model.specs.View.{View}
 use Rattle.model.specs.Limits.{title_limit}
 use Rattle.figures.specs.declared.UnitFigures.{UnitFigures}
@@ -12,32 +17,45 @@ use Rattle.figures.specs.Figures.{no_unit_figures}
 use Rattle.basin.specs.Sound.{exists, is_volume, parts_view}
 use Rattle.refusal.specs.Grant.{in_deficit, overfull, downstream_transfer}
 
--- 14, 15 or 16.
-abbrev pub volume_number : ℕ → ℕ → Bool → ℕ
-volume_number given volume over = cond (is_volume volume) (cond (leb title_limit given) 15 (cond over 16 0)) 14
+-- A volume outside its range, 256 numbers given, or an entry that would pass 10,000,000.
+abbrev pub volume_fault : ℕ → ℕ → Bool → Answer
+volume_fault given volume over =
+    refuse BadVolume (not (is_volume volume)) (refuse NumbersGiven (leb title_limit given) (refuse EntryFull over accepted))
 
--- 12 to 16 and 18, of each kind.
-abbrev pub early_number : View → Title → ℕ
-early_number v (UnitWithdrawal u r x) =
-    cond (exists v.units u) (cond (exists 7 r) (volume_number v.given x (overfull v (UnitWithdrawal u r x))) 13) 12
-early_number v (AquiferWithdrawal a x) =
-    cond (exists v.aquifers a) (volume_number v.given x (overfull v (AquiferWithdrawal a x))) 12
-early_number v (UnitTransfer g r x) =
-    cond (exists v.units g && exists v.units r)
-    (cond (downstream_transfer v g r) 18 (volume_number v.given x (overfull v (UnitTransfer g r x)))) 12
-early_number v (AquiferTransfer a u x) =
-    cond (exists v.aquifers a && exists v.units u) (volume_number v.given x (overfull v (AquiferTransfer a u x))) 12
-early_number v (ReturningWithdrawal a u r x) =
-    cond (exists v.aquifers a && exists v.units u)
-    (cond (exists 7 r) (volume_number v.given x (overfull v (ReturningWithdrawal a u r x))) 13) 12
+-- A title that names a unit, an aquifer or a use that is not there, of so many units and aquifers.
+abbrev pub missing_fault : ℕ → ℕ → Title → Answer
+missing_fault units aquifers (UnitWithdrawal u r x) = refuse NoSuchPlace (not (exists units u)) (refuse NoSuchUse (not (exists 7 r)) accepted)
+missing_fault units aquifers (AquiferWithdrawal a x) = refuse NoSuchPlace (not (exists aquifers a)) accepted
+missing_fault units aquifers (UnitTransfer g r x) = refuse NoSuchPlace (not (exists units g && exists units r)) accepted
+missing_fault units aquifers (AquiferTransfer a u x) = refuse NoSuchPlace (not (exists aquifers a && exists units u)) accepted
+missing_fault units aquifers (ReturningWithdrawal a u r x) =
+    refuse NoSuchPlace (not (exists aquifers a && exists units u)) (refuse NoSuchUse (not (exists 7 r)) accepted)
 
--- The number of the unit that gives, 0 where an aquifer gives.
-abbrev pub giving_unit : Title → ℕ
-giving_unit (UnitWithdrawal u r x) = u
-giving_unit (AquiferWithdrawal a x) = 0
-giving_unit (UnitTransfer g r x) = g
-giving_unit (AquiferTransfer a u x) = 0
-giving_unit (ReturningWithdrawal a u r x) = 0
+-- A transfer between units that goes to the same unit or downstream.
+abbrev pub goes_down : View → Title → Bool
+goes_down v (UnitWithdrawal u r x) = false
+goes_down v (AquiferWithdrawal a x) = false
+goes_down v (UnitTransfer g r x) = downstream_transfer v g r
+goes_down v (AquiferTransfer a u x) = false
+goes_down v (ReturningWithdrawal a u r x) = false
+
+-- An answer, or what follows where it accepts.
+abbrev pub then_answer : Answer → Answer → Answer
+then_answer (Ok u) rest = rest
+then_answer (Err r) rest = Err r
+
+-- What a grant refuses before its water is looked at.
+abbrev pub early_fault : View → Title → Answer
+early_fault v t =
+    then_answer (missing_fault v.units v.aquifers t) (refuse ReceiverBelow (goes_down v t) (volume_fault v.given (volume_of t) (overfull v t)))
+
+-- The unit or the aquifer that gives, by its number.
+abbrev pub giver : Title → Giver
+giver (UnitWithdrawal u r x) = FromUnit u
+giver (AquiferWithdrawal a x) = FromAquifer a
+giver (UnitTransfer g r x) = FromUnit g
+giver (AquiferTransfer a u x) = FromAquifer a
+giver (ReturningWithdrawal a u r x) = FromAquifer a
 
 -- The number of the aquifer that gives, 0 where a unit gives.
 abbrev pub giving_aquifer : Title → ℕ

@@ -1,203 +1,116 @@
-// What a grant refuses before its water is looked at: 12 to 16 and 18; 0 where none of them applies.
-ghost use Rattle.std.specs.Prelude.{◌≡◌, ◌||◌, ◌≤◌, ◌<◌, ◌+◌, [], length};
-ghost use Rattle.model.specs.declared.Title.TheVariants.{UnitWithdrawal, AquiferWithdrawal, UnitTransfer, AquiferTransfer, ReturningWithdrawal};
+// What a grant refuses before its water is looked at.
+ghost use Rattle.std.specs.Prelude.{◌≡◌, ◌≤◌, ◌<◌, ◌+◌, length};
+ghost use Rattle.model.specs.Answers.{accepted};
 ghost use Rattle.model.specs.Limits.{unit_limit, aquifer_limit};
 ghost use Rattle.river.specs.Flow.{Ready};
 ghost use Rattle.river.specs.Units.{units_view, units_of};
+ghost use Rattle.basin.specs.Sound.{parts_view};
 ghost use Rattle.refusal.specs.Grant as grants;
 ghost use Rattle.refusal.specs.Steps as steps;
 ghost use Rattle.refusal.specs.Steps.{entries_view};
 
 use basin::places::{exists, is_volume};
-use model::{Aquifer, Balance, Title, Unit};
+use model::{Answer, Aquifer, Balance, Refusal, Title, Unit};
+
+// A title that names a unit, an aquifer or a use that is not there, of n units and m aquifers.
+fn missing(t: Title, n: usize, m: usize) -> Answer
+    ensures { result ≡ steps.missing_fault n m t }
+{
+    let (places, uses) = match t {
+        Title::UnitWithdrawal { unit, usage, .. } => (exists(n, unit), exists(7, usage)),
+        Title::AquiferWithdrawal { aquifer, .. } => (exists(m, aquifer), true),
+        Title::UnitTransfer { from, to, .. } => (exists(n, from) && exists(n, to), true),
+        Title::AquiferTransfer { aquifer, unit, .. } => {
+            (exists(m, aquifer) && exists(n, unit), true)
+        }
+        Title::ReturningWithdrawal {
+            aquifer,
+            unit,
+            usage,
+            ..
+        } => (exists(m, aquifer) && exists(n, unit), exists(7, usage)),
+    };
+    if !places {
+        return Err(Refusal::NoSuchPlace);
+    }
+    if !uses {
+        return Err(Refusal::NoSuchUse);
+    }
+    Ok(())
+}
 
 // An entry that would pass 10,000,000.
 fn past(entry: u32, more: u32) -> bool
     ensures { result ≡ grants.past (entry + more) }
 {
-    (entry as u64) + (more as u64) > (Balance::TERM as u64)
+    u64::from(entry) + u64::from(more) > u64::from(Balance::TERM)
 }
 
-// One of two entries would pass 10,000,000.
-fn either_past(entry: u32, more: u32, other: u32, too: u32) -> bool
-    ensures { result ≡ (grants.past (entry + more) || grants.past (other + too)) }
-{
-    if past(entry, more) {
-        return true;
-    }
-    past(other, too)
-}
-
-// 14, 15 or 16.
-fn volume_number(given: usize, volume: u32, over: bool) -> u8
-    ensures { result ≡ steps.volume_number given volume over }
-{
-    if is_volume(volume) {
-        if Balance::TITLES <= given {
-            return 15;
-        }
-        if over {
-            return 16;
-        }
-        return 0;
-    }
-    14
-}
-
-// GU: 12 to 16.
-fn withdrawal_number(
-    units: [Unit; Balance::UNITS],
-    n: usize,
-    given: usize,
-    unit: u8,
-    usage: u8,
-    volume: u32,
-) -> u8
-    requires { n ≤ unit_limit }
-    ensures { result ≡ steps.early_number (entries_view units n [] 0 given) (UnitWithdrawal unit usage volume) }
-{
-    if exists(n, unit) {
-        if exists(7, usage) {
-            let k = (unit as usize) - 1;
-            let u = units[k];
-            let over = either_past(
-                u.extraction,
-                volume,
-                u.returns,
-                titles::returned(usage, volume),
-            );
-            return volume_number(given, volume, over);
-        }
-        return 13;
-    }
-    12
-}
-
-// GA: 12, 14 to 16.
-fn pumping_number(
-    aquifers: [Aquifer; Balance::AQUIFERS],
-    m: usize,
-    given: usize,
-    aquifer: u8,
-    volume: u32,
-) -> u8
-    requires { m ≤ aquifer_limit }
-    ensures { result ≡ steps.early_number (entries_view [] 0 aquifers m given) (AquiferWithdrawal aquifer volume) }
-{
-    if exists(m, aquifer) {
-        let k = (aquifer as usize) - 1;
-        let a = aquifers[k];
-        let over = past(a.extraction, volume);
-        return volume_number(given, volume, over);
-    }
-    12
-}
-
-// TA: 12, 14 to 16.
-fn bringing_number(
+// An entry that a title raises would pass 10,000,000. What the title names is there, of n units and m aquifers.
+fn overfull(
     units: [Unit; Balance::UNITS],
     n: usize,
     aquifers: [Aquifer; Balance::AQUIFERS],
     m: usize,
-    given: usize,
-    aquifer: u8,
-    unit: u8,
-    volume: u32,
-) -> u8
-    requires { (n ≤ unit_limit) × (m ≤ aquifer_limit) }
-    ensures { result ≡ steps.early_number (entries_view units n aquifers m given) (AquiferTransfer aquifer unit volume) }
+    t: Title,
+) -> bool
+    requires few { (n ≤ unit_limit) × (m ≤ aquifer_limit) }
+    requires there { steps.missing_fault n m t ≡ accepted }
+    ensures { result ≡ grants.overfull (entries_view units n aquifers m 0) t }
 {
-    if exists(m, aquifer) {
-        if exists(n, unit) {
-            let w = (aquifer as usize) - 1;
-            let a = aquifers[w];
-            let k = (unit as usize) - 1;
-            let u = units[k];
-            let over = either_past(a.extraction, volume, u.imports, volume);
-            return volume_number(given, volume, over);
+    match t {
+        Title::UnitWithdrawal {
+            unit,
+            usage,
+            volume,
+        } => {
+            let u = units[usize::from(unit) - 1];
+            past(u.extraction, volume) || past(u.returns, titles::returned(usage, volume))
         }
-    }
-    12
-}
-
-// GW: 12 to 16.
-fn returning_number(
-    units: [Unit; Balance::UNITS],
-    n: usize,
-    aquifers: [Aquifer; Balance::AQUIFERS],
-    m: usize,
-    given: usize,
-    aquifer: u8,
-    unit: u8,
-    usage: u8,
-    volume: u32,
-) -> u8
-    requires { (n ≤ unit_limit) × (m ≤ aquifer_limit) }
-    ensures { result ≡ steps.early_number (entries_view units n aquifers m given) (ReturningWithdrawal aquifer unit usage volume) }
-{
-    if exists(m, aquifer) {
-        if exists(n, unit) {
-            if exists(7, usage) {
-                let w = (aquifer as usize) - 1;
-                let a = aquifers[w];
-                let k = (unit as usize) - 1;
-                let u = units[k];
-                let over = either_past(
-                    a.extraction,
-                    volume,
-                    u.returns,
+        Title::AquiferWithdrawal { aquifer, volume } => {
+            past(aquifers[usize::from(aquifer) - 1].extraction, volume)
+        }
+        Title::UnitTransfer { from, to, volume } => {
+            past(units[usize::from(from) - 1].exports, volume)
+                || past(units[usize::from(to) - 1].imports, volume)
+        }
+        Title::AquiferTransfer {
+            aquifer,
+            unit,
+            volume,
+        } => {
+            past(aquifers[usize::from(aquifer) - 1].extraction, volume)
+                || past(units[usize::from(unit) - 1].imports, volume)
+        }
+        Title::ReturningWithdrawal {
+            aquifer,
+            unit,
+            usage,
+            volume,
+        } => {
+            past(aquifers[usize::from(aquifer) - 1].extraction, volume)
+                || past(
+                    units[usize::from(unit) - 1].returns,
                     titles::returned(usage, volume),
-                );
-                return volume_number(given, volume, over);
-            }
-            return 13;
+                )
         }
     }
-    12
 }
 
-// 18 same unit, or the receiver lies below the giver.
-fn is_downstream(units: &[Unit], from: u8, to: u8) -> bool
-    requires { Ready (units_of units.now) × (0 < from) × (from ≤ length units.now) × (0 < to) }
-    ensures { result ≡ grants.downstream_transfer (units_of units.now) from to }
+// A transfer between units that goes to the same unit, or to one that lies below the giver.
+fn goes_down(units: &[Unit], m: usize, t: Title) -> bool
+    requires ready { Ready (units_of units.now) }
+    requires there { steps.missing_fault (length units.now) m t ≡ accepted }
+    ensures { result ≡ steps.goes_down (units_of units.now) t }
 {
-    if from == to {
-        return true;
+    if let Title::UnitTransfer { from, to, .. } = t {
+        from == to || reach::lies_below(units, usize::from(from) - 1, usize::from(to) - 1)
+    } else {
+        false
     }
-    let g = (from as usize) - 1;
-    let k = (to as usize) - 1;
-    reach::lies_below(units, g, k)
 }
 
-// TU: 12, 18, 14 to 16.
-fn transfer_number(
-    units: [Unit; Balance::UNITS],
-    n: usize,
-    given: usize,
-    from: u8,
-    to: u8,
-    volume: u32,
-) -> u8
-    requires { Ready (units_view units n) }
-    ensures { result ≡ steps.early_number (entries_view units n [] 0 given) (UnitTransfer from to volume) }
-{
-    if exists(n, from) {
-        if exists(n, to) {
-            if is_downstream(&units[..n], from, to) {
-                return 18;
-            }
-            let g = (from as usize) - 1;
-            let giver = units[g];
-            let k = (to as usize) - 1;
-            let receiver = units[k];
-            let over = either_past(giver.exports, volume, receiver.imports, volume);
-            return volume_number(given, volume, over);
-        }
-    }
-    12
-}
-
-// The number under which a grant is refused before its water is looked at, of each kind of title.
+// What a grant refuses before its water is looked at, first match wins.
 pub fn early(
     units: [Unit; Balance::UNITS],
     n: usize,
@@ -205,32 +118,22 @@ pub fn early(
     m: usize,
     given: usize,
     t: Title,
-) -> u8
+) -> Answer
     requires { Ready (units_view units n) × (m ≤ aquifer_limit) }
-    ensures { result ≡ steps.early_number (entries_view units n aquifers m given) t }
+    ensures { result ≡ steps.early_fault (entries_view units n aquifers m given) t }
 {
-    match t {
-        Title::UnitWithdrawal {
-            unit,
-            usage,
-            volume,
-        } => withdrawal_number(units, n, given, unit, usage, volume),
-        Title::AquiferWithdrawal { aquifer, volume } => pumping_number(
-            aquifers, m, given, aquifer, volume,
-        ),
-        Title::UnitTransfer { from, to, volume } => transfer_number(
-            units, n, given, from, to, volume,
-        ),
-        Title::AquiferTransfer {
-            aquifer,
-            unit,
-            volume,
-        } => bringing_number(units, n, aquifers, m, given, aquifer, unit, volume),
-        Title::ReturningWithdrawal {
-            aquifer,
-            unit,
-            usage,
-            volume,
-        } => returning_number(units, n, aquifers, m, given, aquifer, unit, usage, volume),
+    missing(t, n, m)?;
+    if goes_down(&units[..n], m, t) {
+        return Err(Refusal::ReceiverBelow);
     }
+    if !is_volume(t.volume()) {
+        return Err(Refusal::BadVolume);
+    }
+    if Balance::TITLES <= given {
+        return Err(Refusal::NumbersGiven);
+    }
+    if overfull(units, n, aquifers, m, t) {
+        return Err(Refusal::EntryFull);
+    }
+    Ok(())
 }

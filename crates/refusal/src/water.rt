@@ -12,6 +12,7 @@ ghost use Rattle.effect.specs.Granted.{Named};
 ghost use Rattle.refusal.specs.Steps as steps;
 ghost use Rattle.refusal.specs.Steps.{entries_view};
 
+use crate::Giver;
 use figures::UnitFigures;
 use model::{Aquifer, Balance, Title, Unit};
 
@@ -19,12 +20,7 @@ use model::{Aquifer, Balance, Title, Unit};
 fn in_deficit(f: UnitFigures) -> bool
     ensures { result ≡ grants.in_deficit f }
 {
-    let flow = f.flow;
-    if flow < 0 {
-        return true;
-    }
-    let availability = f.availability;
-    availability < 0
+    f.flow < 0 || f.availability < 0
 }
 
 // Some of n units drains to an outlet and has a negative flow or a negative availability, by their figures and their outlets.
@@ -37,15 +33,10 @@ fn dry_by(
     requires { n ≤ unit_limit }
     ensures { result ≡ steps.dry_by figures ends n outlet }
 {
-    let mut i = 0;
-    while i < n {
-        if ends[i] == outlet {
-            let f = figures[i];
-            if in_deficit(f) {
-                return true;
-            }
+    for i in 0..n {
+        if ends[i] == outlet && in_deficit(figures[i]) {
+            return true;
         }
-        i += 1;
     }
     false
 }
@@ -56,8 +47,7 @@ fn dry(units: &[Unit], j: usize) -> bool
     ensures { result ≡ grants.dry (units_of units.now) j }
 {
     let ends = reach::outlets(units);
-    let outlet = ends[j];
-    dry_by(figures::of_units(units), ends, units.len(), outlet)
+    dry_by(figures::of_units(units), ends, units.len(), ends[j])
 }
 
 // An aquifer with a negative availability.
@@ -65,70 +55,19 @@ fn drained(a: Aquifer) -> bool
     requires { (above a.storage ≤ term_limit) × (below a.storage ≤ term_limit) }
     ensures { result ≡ not (non_neg (well_availability a)) }
 {
-    let w = figures::of_aquifer(&a);
-    w.availability < 0
+    figures::of_aquifer(&a).availability < 0
 }
 
-// The number of the unit that gives, 0 where an aquifer gives.
-fn giving_unit(t: Title) -> u8
-    ensures { result ≡ steps.giving_unit t }
+// What gives the water of a title.
+fn giver(t: Title) -> Giver
+    ensures { result ≡ steps.giver t }
 {
     match t {
-        Title::UnitWithdrawal {
-            unit,
-            usage: _,
-            volume: _,
-        } => unit,
-        Title::AquiferWithdrawal {
-            aquifer: _,
-            volume: _,
-        } => 0,
-        Title::UnitTransfer {
-            from,
-            to: _,
-            volume: _,
-        } => from,
-        Title::AquiferTransfer {
-            aquifer: _,
-            unit: _,
-            volume: _,
-        } => 0,
-        Title::ReturningWithdrawal {
-            aquifer: _,
-            unit: _,
-            usage: _,
-            volume: _,
-        } => 0,
-    }
-}
-
-// The number of the aquifer that gives, 0 where a unit gives.
-fn giving_aquifer(t: Title) -> u8
-    ensures { result ≡ steps.giving_aquifer t }
-{
-    match t {
-        Title::UnitWithdrawal {
-            unit: _,
-            usage: _,
-            volume: _,
-        } => 0,
-        Title::AquiferWithdrawal { aquifer, volume: _ } => aquifer,
-        Title::UnitTransfer {
-            from: _,
-            to: _,
-            volume: _,
-        } => 0,
-        Title::AquiferTransfer {
-            aquifer,
-            unit: _,
-            volume: _,
-        } => aquifer,
-        Title::ReturningWithdrawal {
-            aquifer,
-            unit: _,
-            usage: _,
-            volume: _,
-        } => aquifer,
+        Title::UnitWithdrawal { unit, .. } => Giver::FromUnit(unit),
+        Title::UnitTransfer { from, .. } => Giver::FromUnit(from),
+        Title::AquiferWithdrawal { aquifer, .. }
+        | Title::AquiferTransfer { aquifer, .. }
+        | Title::ReturningWithdrawal { aquifer, .. } => Giver::FromAquifer(aquifer),
     }
 }
 
@@ -143,11 +82,8 @@ pub fn no_water(
     requires { Ready (units_view units n) × WellsReady (aquifers_view aquifers m) × Named (entries_view units n aquifers m 0) t }
     ensures { result ≡ grants.no_water (entries_view units n aquifers m 0) t }
 {
-    let u = giving_unit(t) as usize;
-    if 0 < u {
-        return dry(&units[..n], u - 1);
+    match giver(t) {
+        Giver::FromUnit(unit) => dry(&units[..n], usize::from(unit) - 1),
+        Giver::FromAquifer(aquifer) => drained(aquifers[usize::from(aquifer) - 1]),
     }
-    let k = (giving_aquifer(t) as usize) - 1;
-    let a = aquifers[k];
-    drained(a)
 }

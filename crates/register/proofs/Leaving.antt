@@ -1,4 +1,5 @@
 -- The reply to a cancellation by its outcomes, and that an accepted one never hands out a balance that falls under 0. Assumes nothing.
+use Rattle.std.specs.Prelude.{Ok, Err}
 use Prim.Native.Nat.{ℕ, pred, ◌-◌, ◌<◌}
 use mathlib.Core.Path.{◌≡◌, refl, sym, ap, subst⁻¹, ◌∙◌}
 use mathlib.Core.Bool.{Bool, true, false, not, true≢false}
@@ -6,13 +7,13 @@ use native.Mathlib.Omega.{arith}
 use borrow.Author.Tests.{eq-eqb, ne_eqb}
 use Rattle.laws.proofs.Cases.{by_bool, by_eq}
 use Rattle.laws.proofs.Every.{every_each}
+use Rattle.model.specs.declared.Refusal.TheVariants.{Unsound, NotInForce, FlowNeeded}
 use Rattle.model.specs.declared.Unit.{Unit}
 use Rattle.model.specs.declared.Aquifer.{Aquifer}
 use Rattle.model.specs.declared.Title.{Title}
-use Rattle.model.specs.declared.Answer.TheVariants.{Accepted}
 use Rattle.model.specs.declared.Balance.{Balance}
 use Rattle.model.specs.View.{View, view_of}
-use Rattle.model.specs.Answers.{Refusal, none, number, refuse}
+use Rattle.model.specs.Answers.{Answer, refuse}
 use Rattle.titles.specs.Adds.{return_of}
 use Rattle.titles.specs.declared.Slot.TheVariants.{Extraction, Exports, Imports, Returns, WellExtraction}
 use Rattle.river.specs.Flow.{Ready}
@@ -94,31 +95,31 @@ cancelled_sound v n e q d =
     })
 
 module _ (b : Balance) (n : ℕ) where
-  by_refusal : (r : Refusal) → after_test b (cancel_refusal (view_of b) n) ≡ r → replied r b (without_title b n) n ≡ cancel_reply b n
-  by_refusal r e = ap (λ (x : Refusal). replied x b (without_title b n) n) (sym e)
+  by_refusal : (r : Answer) → after_test b (cancel_refusal (view_of b) n) ≡ r → replied r b (without_title b n) n ≡ cancel_reply b n
+  by_refusal r e = ap (λ (x : Answer). replied x b (without_title b n) n) (sym e)
 
   outcome : (s f : Bool) → sound (view_of b) ≡ s → number_in_force (view_of b) n ≡ f
       → after_test b (cancel_refusal (view_of b) n)
-      ≡ refuse 0 (not s) (refuse 19 (not f) (refuse 20 (not (flowing (cancelled (view_of b) n))) none))
-  outcome s f e q = λ i. refuse 0 (not (e i)) (refuse 19 (not (q i)) (refuse 20 (not (flowing (cancelled (view_of b) n))) none))
+      ≡ refuse Unsound (not s) (refuse NotInForce (not f) (refuse FlowNeeded (not (flowing (cancelled (view_of b) n))) (Ok tt)))
+  outcome s f e q = λ i. refuse Unsound (not (e i)) (refuse NotInForce (not (q i)) (refuse FlowNeeded (not (flowing (cancelled (view_of b) n))) (Ok tt)))
 
   -- 0.
-  pub reply_fault : sound (view_of b) ≡ false → replied (number 0) b b 0 ≡ cancel_reply b n
-  reply_fault e = by_refusal (number 0) (outcome false (number_in_force (view_of b) n) e refl)
+  pub reply_fault : sound (view_of b) ≡ false → replied (Err Unsound) b b 0 ≡ cancel_reply b n
+  reply_fault e = by_refusal (Err Unsound) (outcome false (number_in_force (view_of b) n) e refl)
 
   -- 19.
-  pub reply_not_in_force : sound (view_of b) ≡ true → number_in_force (view_of b) n ≡ false → replied (number 19) b b 0 ≡ cancel_reply b n
-  reply_not_in_force e q = by_refusal (number 19) (outcome true false e q)
+  pub reply_not_in_force : sound (view_of b) ≡ true → number_in_force (view_of b) n ≡ false → replied (Err NotInForce) b b 0 ≡ cancel_reply b n
+  reply_not_in_force e q = by_refusal (Err NotInForce) (outcome true false e q)
 
   -- 20.
   pub reply_needed : sound (view_of b) ≡ true → number_in_force (view_of b) n ≡ true → flowing (cancelled (view_of b) n) ≡ false
-      → replied (number 20) b b 0 ≡ cancel_reply b n
-  reply_needed e q d = by_refusal (number 20) (outcome true true e q ∙ ap (λ (x : Bool). refuse 20 (not x) none) d)
+      → replied (Err FlowNeeded) b b 0 ≡ cancel_reply b n
+  reply_needed e q d = by_refusal (Err FlowNeeded) (outcome true true e q ∙ ap (λ (x : Bool). refuse FlowNeeded (not x) (Ok tt)) d)
 
   -- Accepted.
   pub reply_cancelled : sound (view_of b) ≡ true → number_in_force (view_of b) n ≡ true → flowing (cancelled (view_of b) n) ≡ true
-      → replied none b (without_title b n) n ≡ cancel_reply b n
-  reply_cancelled e q d = by_refusal none (outcome true true e q ∙ ap (λ (x : Bool). refuse 20 (not x) none) d)
+      → replied (Ok tt) b (without_title b n) n ≡ cancel_reply b n
+  reply_cancelled e q d = by_refusal (Ok tt) (outcome true true e q ∙ ap (λ (x : Bool). refuse FlowNeeded (not x) (Ok tt)) d)
 
 -- What holds where a cancellation is accepted.
 pub record Released (b : Balance) (n : ℕ) : Type 0 where
@@ -126,22 +127,22 @@ pub record Released (b : Balance) (n : ℕ) : Type 0 where
   pub stands : number_in_force (view_of b) n ≡ true
   pub flows : flowing (cancelled (view_of b) n) ≡ true
 
-pub cancel_released : (b : Balance) (n : ℕ) → (cancel_reply b n).answer ≡ Accepted → Released b n
+pub cancel_released : (b : Balance) (n : ℕ) → (cancel_reply b n).answer ≡ Ok tt → Released b n
 cancel_released b n a =
     by_bool (sound (view_of b))
     (λ e. by_bool (number_in_force (view_of b) n)
     (λ q. by_bool (flowing (cancelled (view_of b) n))
     (λ d. record { sound_before = e; stands = q; flows = d })
-    (λ d. absurd (not_refused 20 (cancel_reply b n) (ap (λ (r : Reply). r.answer) (sym (reply_needed b n e q d))) a)))
-    (λ q. absurd (not_refused 19 (cancel_reply b n) (ap (λ (r : Reply). r.answer) (sym (reply_not_in_force b n e q))) a)))
-    (λ e. absurd (not_refused 0 (cancel_reply b n) (ap (λ (r : Reply). r.answer) (sym (reply_fault b n e))) a))
+    (λ d. absurd (not_refused FlowNeeded (cancel_reply b n) (ap (λ (r : Reply). r.answer) (sym (reply_needed b n e q d))) a)))
+    (λ q. absurd (not_refused NotInForce (cancel_reply b n) (ap (λ (r : Reply). r.answer) (sym (reply_not_in_force b n e q))) a)))
+    (λ e. absurd (not_refused Unsound (cancel_reply b n) (ap (λ (r : Reply). r.answer) (sym (reply_fault b n e))) a))
 
 -- The reply to an accepted cancellation.
-pub released_reply : (b : Balance) (n : ℕ) → Released b n → replied none b (without_title b n) n ≡ cancel_reply b n
+pub released_reply : (b : Balance) (n : ℕ) → Released b n → replied (Ok tt) b (without_title b n) n ≡ cancel_reply b n
 released_reply b n f = reply_cancelled b n f.sound_before f.stands f.flows
 
 -- CA: an accepted cancellation never hands out a balance that falls under 0.
-pub cancel_sound : (b : Balance) (n : ℕ) → Sized b → (cancel_reply b n).answer ≡ Accepted → sound (view_of (cancel_reply b n).balance) ≡ true
+pub cancel_sound : (b : Balance) (n : ℕ) → Sized b → (cancel_reply b n).answer ≡ Ok tt → sound (view_of (cancel_reply b n).balance) ≡ true
 cancel_sound b n z a =
     let f = cancel_released b n a in
     subst⁻¹ (λ (x : Balance). sound (view_of x) ≡ true) (ap (λ (r : Reply). r.balance) (sym (released_reply b n f)))

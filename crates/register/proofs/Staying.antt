@@ -1,4 +1,5 @@
 -- An accepted grant never hands out a balance that falls under 0. Assumes nothing.
+use Rattle.std.specs.Prelude.{Ok, Err}
 use Prim.Native.Nat.{ℕ, suc, pred, ◌+◌, ◌≤◌, ◌<◌}
 use mathlib.Core.Path.{◌≡◌, refl, sym, ap, subst⁻¹, ◌∙◌}
 use mathlib.Core.Bool.{Bool, true, false, not, ◌&&◌, ◌||◌, true≢false}
@@ -7,11 +8,11 @@ use native.Mathlib.Omega.{arith}
 use borrow.Author.Tests.{eq-eqb, ne_eqb}
 use Rattle.laws.proofs.Cases.{by_bool, by_eq}
 use Rattle.laws.proofs.Putting.{sum_put_next}
+use Rattle.model.specs.declared.Refusal.{Refusal}
+use Rattle.model.specs.declared.Refusal.TheVariants.{Unsound, NoWater}
 use Rattle.model.specs.declared.Unit.{Unit}
 use Rattle.model.specs.declared.Title.{Title}
 use Rattle.model.specs.declared.Title.TheVariants.{UnitWithdrawal, AquiferWithdrawal, UnitTransfer, AquiferTransfer, ReturningWithdrawal}
-use Rattle.model.specs.declared.Answer.{Answer}
-use Rattle.model.specs.declared.Answer.TheVariants.{Accepted, Refused}
 use Rattle.model.specs.declared.Balance.{Balance}
 use Rattle.model.specs.Entries.{place_of}
 use Rattle.model.specs.View.{View, view_of}
@@ -29,9 +30,10 @@ use Rattle.reach.proofs.Local.{flow_outside, flow_raised}
 use Rattle.effect.specs.Effect.{changed_unit}
 use Rattle.effect.specs.Granted.{posted, granted, Sized}
 use Rattle.refusal.specs.Grant.{wanting, dry, no_water}
-use Rattle.model.specs.Answers.{none}
+use Rattle.model.specs.Answers.{Answer}
 use Rattle.register.specs.Reply.{replied, grant_reply}
-use Rattle.refusal.specs.Steps.{early_number}
+use Rattle.refusal.specs.Steps.{early_fault}
+use Rattle.model.proofs.Answers.{by_answer}
 use Rattle.register.specs.declared.Reply.{Reply}
 use Rattle.effect.proofs.Taking.{elsewhere}
 use Rattle.refusal.proofs.Granting.{Granting, granting_of, unit_stays, aquifer_stays}
@@ -135,7 +137,7 @@ granted_flows v (AquiferTransfer a u x) s g d = well_flows v (AquiferTransfer a 
 granted_flows v (ReturningWithdrawal a u r x) s g d = well_flows v (ReturningWithdrawal a u r x) s g (λ k. (refl, refl))
 
 -- A sound view stays sound with a title in that no refusal meets.
-pub granted_sound : (v : View) (t : Title) → sound v ≡ true → early_number v t ≡ 0 → no_water (granted v t) t ≡ false
+pub granted_sound : (v : View) (t : Title) → sound v ≡ true → early_fault v t ≡ Ok tt → no_water (granted v t) t ≡ false
     → sound (granted v t) ≡ true
 granted_sound v t e q d =
     let s = soundness v e in
@@ -143,35 +145,34 @@ granted_sound v t e q d =
     sound_of (granted v t) (granted_soundness v t s g (granted_flows v t s g d))
 
 abbrev is_accepted : Answer → Bool
-is_accepted Accepted = true
-is_accepted (Refused n) = false
+is_accepted (Ok u) = true
+is_accepted (Err n) = false
 
-pub not_refused : (n : ℕ) (r : Reply) → r.answer ≡ Refused n → r.answer ≡ Accepted → ⊥
+pub not_refused : (n : Refusal) (r : Reply) → r.answer ≡ Err n → r.answer ≡ Ok tt → ⊥
 not_refused n r e a = true≢false (sym (ap is_accepted a) ∙ ap is_accepted e)
 
 -- What holds where a grant is accepted.
 pub record Given (b : Balance) (t : Title) : Type 0 where
   pub sound_before : sound (view_of b) ≡ true
-  pub none_early : early_number (view_of b) t ≡ 0
+  pub none_early : early_fault (view_of b) t ≡ Ok tt
   pub water : no_water (granted (view_of b) t) t ≡ false
 
-pub grant_given : (b : Balance) (t : Title) → (grant_reply b t).answer ≡ Accepted → Given b t
+pub grant_given : (b : Balance) (t : Title) → (grant_reply b t).answer ≡ Ok tt → Given b t
 grant_given b t a =
     by_bool (sound (view_of b))
-    (λ e. by_eq (early_number (view_of b) t) 0
+    (λ e. by_answer (early_fault (view_of b) t)
     (λ q. by_bool (no_water (granted (view_of b) t) t)
-    (λ d. absurd (not_refused 17 (grant_reply b t) (ap (λ (r : Reply). r.answer) (sym (reply_dry b t e q d))) a))
+    (λ d. absurd (not_refused NoWater (grant_reply b t) (ap (λ (r : Reply). r.answer) (sym (reply_dry b t e q d))) a))
     (λ d. record { sound_before = e; none_early = q; water = d }))
-    (λ q. absurd (not_refused _ (grant_reply b t)
-    (ap (λ (r : Reply). r.answer) (sym (reply_early b t (early_number (view_of b) t) e refl (omega arith)))) a)))
-    (λ e. absurd (not_refused 0 (grant_reply b t) (ap (λ (r : Reply). r.answer) (sym (reply_unsound b t e))) a))
+    (λ n q. absurd (not_refused n (grant_reply b t) (ap (λ (r : Reply). r.answer) (sym (reply_early b t n e q))) a)))
+    (λ e. absurd (not_refused Unsound (grant_reply b t) (ap (λ (r : Reply). r.answer) (sym (reply_unsound b t e))) a))
 
 -- The reply to an accepted grant.
-pub given_reply : (b : Balance) (t : Title) → Given b t → replied none b (posted b t) (b.given + 1) ≡ grant_reply b t
+pub given_reply : (b : Balance) (t : Title) → Given b t → replied (Ok tt) b (posted b t) (b.given + 1) ≡ grant_reply b t
 given_reply b t g = reply_given b t g.sound_before g.none_early g.water
 
 -- GU, GA, TU, TA and GW: an accepted call never hands out a balance that falls under 0.
-pub accepted_sound : (b : Balance) (t : Title) → Sized b → (grant_reply b t).answer ≡ Accepted → sound (view_of (grant_reply b t).balance) ≡ true
+pub accepted_sound : (b : Balance) (t : Title) → Sized b → (grant_reply b t).answer ≡ Ok tt → sound (view_of (grant_reply b t).balance) ≡ true
 accepted_sound b t z a =
     let g = grant_given b t a in
     subst⁻¹ (λ (x : Balance). sound (view_of x) ≡ true) (ap (λ (r : Reply). r.balance) (sym (given_reply b t g)))

@@ -1,4 +1,5 @@
 -- The arrays that a decision tries: with a title in, and without one. Assumes nothing.
+use Rattle.std.specs.Prelude.{Ok}
 use Prim.Native.Nat.{ℕ, pred, ◌≤◌, ◌<◌}
 use mathlib.Core.Path.{◌≡◌, ap, subst⁻¹, ◌∙◌}
 use mathlib.Core.Bool.{true, false}
@@ -23,7 +24,7 @@ use Rattle.effect.specs.Granted.{granted, raised_units, raised_wells, posted, Si
 use Rattle.effect.specs.Cancelled.{title_of, cancelled, without_title, lowered_units, Takable}
 use Rattle.effect.proofs.Changing.{posted_view}
 use Rattle.refusal.specs.Grant.{no_water}
-use Rattle.refusal.specs.Steps.{early_number, entries_view}
+use Rattle.refusal.specs.Steps.{early_fault, entries_view}
 use Rattle.refusal.proofs.Granting.{granting_of, granting_named, granted_ready, granted_wells_ready}
 use Rattle.refusal.proofs.Giving.{water_untitled}
 use Rattle.register.specs.Cancel.{number_in_force}
@@ -38,7 +39,7 @@ Trial b t us ws =
     × Named (entries_view us b.unit_count ws b.aquifer_count 0) t
 
 module _ (b : Balance) (t : Title) (us : List Unit) (ws : List Aquifer) (z : Sized b) (e : sound (view_of b) ≡ true)
-    (q : early_number (view_of b) t ≡ 0) (u : us ≡ raised_units t b.units) (w : ws ≡ raised_wells t b.aquifers) where
+    (q : early_fault (view_of b) t ≡ Ok tt) (u : us ≡ raised_units t b.units) (w : ws ≡ raised_wells t b.aquifers) where
   view : view_of (posted b t) ≡ granted (view_of b) t
   view = posted_view b t z (grantable_of b t e q)
 

@@ -4,14 +4,14 @@ use Rattle.model.specs.declared.Call.{Call}
 use Rattle.model.specs.declared.Call.TheVariants.{Grant, Cancel}
 use Rattle.model.specs.declared.Balance.{Balance}
 use Rattle.model.specs.View.{View}
-use Rattle.model.specs.Answers.{Refusal}
+use Rattle.model.specs.Answers.{Answer}
 use Rattle.refusal.specs.Grant.{grant_refusal}
 use Rattle.register.specs.Reply.{grant_reply}
 use Rattle.register.specs.Cancel.{cancel_refusal, cancel_reply}
 use Rattle.register.specs.declared.Reply.{Reply}
 
 -- What a call refuses, leaving out 0.
-abbrev pub call_refusal : View → Call → Refusal
+abbrev pub call_refusal : View → Call → Answer
 call_refusal v (Grant t) = grant_refusal v t
 call_refusal v (Cancel n) = cancel_refusal v n
 

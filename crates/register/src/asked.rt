@@ -8,7 +8,7 @@ ghost use Rattle.register.specs.Calls as calls;
 use crate::Reply;
 use crate::decision::decide;
 use crate::outcome::{number_of, perform, refused};
-use model::{Answer, Balance, Call, Title};
+use model::{Balance, Call, Title};
 
 // The reply to a call of any kind.
 pub fn ask(b: Balance, c: Call) -> Reply
@@ -16,12 +16,12 @@ pub fn ask(b: Balance, c: Call) -> Reply
 {
     let sound = basin::sound(b);
     match decide(b, sound, c) {
-        Answer::Accepted => Reply {
-            answer: Answer::Accepted,
+        Ok(()) => Reply {
+            answer: Ok(()),
             number: number_of(b.given, c),
             balance: perform(b, c),
         },
-        Answer::Refused(code) => refused(b, code),
+        Err(refusal) => refused(b, refusal),
     }
 }
 

@@ -10,7 +10,7 @@ ghost use Rattle.register.specs.Cancel as cancels;
 ghost use Rattle.register.specs.Calls as calls;
 
 use crate::outcome::sized;
-use model::{Answer, Balance, Call, Found, Title, Unit};
+use model::{Answer, Balance, Call, Refusal, Title, Unit};
 
 // The answer to a grant on a sound balance: 12 to 16 and 18, then 17 with the title in.
 fn grant_answer(b: Balance, t: Title) -> Answer
@@ -22,16 +22,13 @@ fn grant_answer(b: Balance, t: Title) -> Answer
     let m = b.aquifer_count;
     let units = b.units;
     let aquifers = b.aquifers;
-    let number = refusal::early(units, n, aquifers, m, b.given, t);
-    if 0 < number {
-        return Answer::Refused(number);
-    }
+    refusal::early(units, n, aquifers, m, b.given, t)?;
     let raised = effect::raised_units(units, t);
     let drawn = effect::raised_wells(aquifers, t);
     if refusal::no_water(raised, n, drawn, m, t) {
-        return Answer::Refused(17);
+        return Err(Refusal::NoWater);
     }
-    Answer::Accepted
+    Ok(())
 }
 
 // Some flow would be negative without a title.
@@ -40,10 +37,7 @@ fn needed(units: [Unit; Balance::UNITS], n: usize, t: Title) -> bool
     ensures { result ≡ not (sounds.flowing (units_view (lowered_units t units) n)) }
 {
     let less = effect::lowered_units(units, t);
-    match river::first_negative(&less[..n]) {
-        Found::Nothing => false,
-        Found::At(_) => true,
-    }
+    river::first_negative(&less[..n]).is_some()
 }
 
 // The answer to a cancellation on a sound balance: 19 where the number was not given or its place is not in force, then 20.
@@ -52,24 +46,22 @@ fn cancel_answer(b: Balance, number: u16) -> Answer
     ensures { result ≡ (cancels.cancel_reply b number).answer }
 {
     let _ = sized(b);
-    let k = number as usize;
+    let k = usize::from(number);
     if k == 0 {
-        return Answer::Refused(19);
+        return Err(Refusal::NotInForce);
     }
     if b.given < k {
-        return Answer::Refused(19);
+        return Err(Refusal::NotInForce);
     }
     let place = b.titles[k - 1];
     let in_force = place.in_force;
     if !in_force {
-        return Answer::Refused(19);
+        return Err(Refusal::NotInForce);
     }
-    let title = place.title;
-    let units = b.units;
-    if needed(units, b.unit_count, title) {
-        return Answer::Refused(20);
+    if needed(b.units, b.unit_count, place.title) {
+        return Err(Refusal::FlowNeeded);
     }
-    Answer::Accepted
+    Ok(())
 }
 
 // The answer to a call on a balance that was tested for 0: `sound` says what the test gave.
@@ -78,7 +70,7 @@ pub fn decide(b: Balance, sound: bool, c: Call) -> Answer
     ensures { result ≡ (calls.call_reply b c).answer }
 {
     if !sound {
-        return Answer::Refused(0);
+        return Err(Refusal::Unsound);
     }
     match c {
         Call::Grant { title } => grant_answer(b, title),

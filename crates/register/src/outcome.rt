@@ -1,8 +1,7 @@
 // What a call does once it is accepted, and the lengths that every balance has.
 ghost use Rattle.std.specs.Prelude.{◌≡◌, ◌≤◌, length};
-ghost use Rattle.model.specs.declared.Answer.TheVariants.{Accepted};
 ghost use Rattle.model.specs.View.{view_of};
-ghost use Rattle.model.specs.Answers.{number};
+ghost use Rattle.model.specs.Answers.{accepted};
 ghost use Rattle.model.specs.Limits.{unit_limit, aquifer_limit, title_limit};
 ghost use Rattle.basin.specs.Sound as sounds;
 ghost use Rattle.effect.specs.Granted.{Sized};
@@ -10,7 +9,7 @@ ghost use Rattle.register.specs.Reply as replies;
 ghost use Rattle.register.specs.Calls as calls;
 
 use crate::Reply;
-use model::{Answer, Aquifer, Balance, Call, Place, Unit};
+use model::{Aquifer, Balance, Call, Place, Refusal, Unit};
 
 // Three arrays have their full length.
 fn lengths(
@@ -35,7 +34,7 @@ pub(crate) fn sized(b: Balance) -> bool
 
 // The balance after an accepted call. It is as sound as the one before, so that a list of calls needs one test for 0.
 pub fn perform(b: Balance, c: Call) -> Balance
-    requires { (calls.call_reply b c).answer ≡ Accepted }
+    requires { (calls.call_reply b c).answer ≡ accepted }
     ensures value { result ≡ (calls.call_reply b c).balance }
     ensures b_value { sounds.sound (view_of b) ≡ sounds.sound (view_of result) }
 {
@@ -52,17 +51,17 @@ pub fn number_of(given: usize, c: Call) -> u16
     ensures { result ≡ calls.call_number given c }
 {
     match c {
-        Call::Grant { title: _ } => (given as u16) + 1,
+        Call::Grant { title: _ } => given as u16 + 1,
         Call::Cancel { number } => number,
     }
 }
 
 // A refused call hands back the old balance, and 0 as the title's number.
-pub(crate) fn refused(b: Balance, code: u8) -> Reply
-    ensures { result ≡ replies.replied (number code) b b 0 }
+pub(crate) fn refused(b: Balance, refusal: Refusal) -> Reply
+    ensures { result ≡ replies.replied (Err refusal) b b 0 }
 {
     Reply {
-        answer: Answer::Refused(code),
+        answer: Err(refusal),
         number: 0,
         balance: b,
     }

@@ -6,11 +6,11 @@ ghost use Rattle.river.specs.Flow.{Ready, flow};
 ghost use Rattle.river.specs.Units.{units_of};
 
 use crate::flow::{gain, loss};
-use model::{Balance, Found, Unit};
+use model::{Balance, Unit};
 
 // The lowest-numbered unit with a negative flow, if there is one: more is lost at it than arrives from above and is gained there. Forward
 // over the units, the flow of each goes on to its downstream unit.
-pub fn first_negative(units: &[Unit]) -> Found
+pub fn first_negative(units: &[Unit]) -> Option<usize>
     requires { Ready (units_of units.now) }
     ensures { let v = units_of units.now in result ≡ first v.units (λ j. not (non_neg (flow v j))) }
 {
@@ -18,12 +18,12 @@ pub fn first_negative(units: &[Unit]) -> Found
     let mut rest = units.iter().enumerate();
     loop {
         let Some((i, u)) = rest.next() else {
-            break Found::Nothing;
+            break None;
         };
         let gained = arrived[i] + gain(u);
         let lost = loss(u);
         if gained < lost {
-            break Found::At(i);
+            break Some(i);
         }
         if let Some(k) = usize::from(u.downstream).checked_sub(1) {
             arrived[k] += gained - lost;

@@ -50,13 +50,13 @@ call_line-p-requires c =
     omega (arith, i.written.short, i.written.place, c.no_line-p.ensures.place, i.few, c.requires.0)
 
 pub perform-b-requires : goal.perform-b-requires
-perform-b-requires c = sym c.decide-answer.ensures ∙ c.in-Accepted.is
+perform-b-requires c = sym c.decide-answer.ensures ∙ c.in-Ok.is
 
-pub loop-left-smaller-in-Accepted : goal.loop-left-smaller-in-Accepted
-loop-left-smaller-in-Accepted c = falls_down _ c.loop-left-test.true
+pub loop-left-smaller-in-Ok : goal.loop-left-smaller-in-Ok
+loop-left-smaller-in-Ok c = falls_down _ c.loop-left-test.true
 
-pub loop-left-preserved-in-Accepted : goal.loop-left-preserved-in-Accepted
-loop-left-preserved-in-Accepted c =
+pub loop-left-preserved-in-Ok : goal.loop-left-preserved-in-Ok
+loop-left-preserved-in-Ok c =
     let line = c in
     let start = line in
     let turn = line.loop-left in (
@@ -75,7 +75,7 @@ loop-left-preserved c =
     let start = line in
     let turn = line.loop-left in (
       printing_refused start.args.s.now start.args.from start.args.balance _ _ _ _ _ _ _ _ _ _ _ _ _ _ _ line.decide-answer.ensures line.number_of-number.ensures
-          c.in-Refused.is line.loop-left-test.true turn.invariant.0 (sym line.in-Asks.ensures) line.call_line-p.ensures,
+          c.in-Err.is line.loop-left-test.true turn.invariant.0 (sym line.in-Asks.ensures) line.call_line-p.ensures,
       turn.invariant.1,
     )
 

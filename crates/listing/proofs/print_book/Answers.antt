@@ -17,20 +17,20 @@ run_lines-requires c =
     let s = c.args.s.now in
     (omega (arith, c.if-s-gt65536.false), opened_sound s _ c.read_book-o.ensures)
 
-pub returns-in-Accepted : goal.returns-in-Accepted
-returns-in-Accepted c =
+pub returns-in-Ok : goal.returns-in-Ok
+returns-in-Ok c =
     let s = c.args.s.now in
     let r = c.read_book-o.ensures in
     restate c.run_lines.ensures
     (ap (λ (o : Opened). run_text s o.place o.balance) r
-    ∙ printed_accepted s c.if-s-gt65536.false (ap (λ (o : Opened). o.answer) (sym r) ∙ c.in-Accepted.is))
+    ∙ printed_accepted s c.if-s-gt65536.false (ap (λ (o : Opened). o.answer) (sym r) ∙ c.in-Ok.is))
 
-pub returns-in-Refused : goal.returns-in-Refused
-returns-in-Refused c =
+pub returns-in-Err : goal.returns-in-Err
+returns-in-Err c =
     let s = c.args.s.now in
     let r = c.read_book-o.ensures in
     widen
-    (restate c.refused_line-in-Refused.ensures
-    (ap (λ (o : Opened). refused_line c.in-Refused.number o.place) r
-    ∙ printed_refused s _ c.if-s-gt65536.false (ap (λ (o : Opened). o.answer) (sym r) ∙ c.in-Refused.is)))
+    (restate c.refused_line-in-Err.ensures
+    (ap (λ (o : Opened). refused_line c.in-Err.number o.place) r
+    ∙ printed_refused s _ c.if-s-gt65536.false (ap (λ (o : Opened). o.answer) (sym r) ∙ c.in-Err.is)))
     (omega arith)

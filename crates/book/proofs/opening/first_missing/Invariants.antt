@@ -1,11 +1,8 @@
 -- `book::first_missing` meets its contract. Assumes nothing.
-use Prim.Native.Nat.{ℕ, ◌≤◌, ◌<◌, ◌-◌}
+use Rattle.std.proofs.Common.{ℕ, ◌≤◌, ◌<◌}
 use Rattle.model.specs.View.{view_of}
 use Rattle.river.specs.Flow.{downstream}
 use Rattle.book.proofs.opening.first_missing.Given as goal
 
 abbrev pub invariant-loop-i : goal.invariant-loop-i
-invariant-loop-i l = (l.i ≤ l.n) × ((k : ℕ) → k < l.i → downstream (view_of l.b) k ≤ l.n)
-
-abbrev pub decreases-loop-i : goal.decreases-loop-i
-decreases-loop-i l = l.n - l.i
+invariant-loop-i l = (k : ℕ) → k < l.i → downstream (view_of l.b) k ≤ l.b.unit_count

@@ -23,13 +23,13 @@ pub decide-answer-requires : goal.decide-answer-requires
 decide-answer-requires c = c.loop-left.invariant.1
 
 pub perform-b-requires : goal.perform-b-requires
-perform-b-requires c = sym c.in-Accepted.ensures
+perform-b-requires c = sym c.in-Ok.ensures
 
-pub loop-left-smaller-in-Accepted : goal.loop-left-smaller-in-Accepted
-loop-left-smaller-in-Accepted c = falls_down _ c.loop-left-test.true
+pub loop-left-smaller-in-Ok : goal.loop-left-smaller-in-Ok
+loop-left-smaller-in-Ok c = falls_down _ c.loop-left-test.true
 
-pub loop-left-preserved-in-Accepted : goal.loop-left-preserved-in-Accepted
-loop-left-preserved-in-Accepted c = (
+pub loop-left-preserved-in-Ok : goal.loop-left-preserved-in-Ok
+loop-left-preserved-in-Ok c = (
   rw c.perform-b.ensures.value
       (turn_asks _ _ _ _ _ _ _ c.loop-left-test.true c.loop-left.invariant.0 (sym c.in-Asks.ensures)),
   c.loop-left.invariant.1 ∙ c.perform-b.ensures.b_value,
@@ -41,7 +41,7 @@ loop-left-smaller c = falls_down _ c.loop-left-test.true
 pub loop-left-preserved : goal.loop-left-preserved
 loop-left-preserved c = (
   turn_refused _ _ _ _ _ _ _ _ c.loop-left-test.true c.loop-left.invariant.0 (sym c.in-Asks.ensures)
-      (sym c.in-Refused.ensures),
+      (sym c.in-Err.ensures),
   c.loop-left.invariant.1,
 )
 

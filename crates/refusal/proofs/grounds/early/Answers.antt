@@ -1,35 +1,54 @@
 -- `refusal::early` meets its contract. Assumes nothing.
-use mathlib.Core.Path.{sym, ap, ◌∙◌}
-use mathlib.Core.List.{[]}
-use lib.ListN.{get_or}
-use Rattle.model.specs.Fresh.{empty_aquifer, empty_place}
+use Rattle.std.proofs.Common.{◌≡◌, refl, sym, subst, ◌∙◌, ℕ, take, Ok, arith, rules}
 use Rattle.model.specs.View.{View}
-use Rattle.refusal.specs.Steps.{entries_view, early_number}
-use Rattle.refusal.proofs.Giving.{transfer_others}
+use Rattle.river.specs.Flow.{Ready}
+use Rattle.river.specs.Units.{units_view, units_of}
+use Rattle.river.proofs.Units.{SameUnits, counted_units, ready_same}
+use Rattle.refusal.specs.Steps.{entries_view, goes_down, missing_fault}
+use Rattle.refusal.proofs.Giving.{goes_down_same}
 use Rattle.refusal.proofs.grounds.early.Goals as goal
-use Rattle.refusal.proofs.grounds.early.Goals.{Start}
+use Rattle.refusal.proofs.grounds.early.Goals.{Start, In_ok-missing, After-goes_down}
 
--- The view of the entries.
+-- The view of the entries, and that its units are the counted ones.
 abbrev entries : Start → View
 entries c = entries_view c.args.units c.args.n c.args.aquifers c.args.m c.args.given
 
-pub returns-in-UnitWithdrawal : goal.returns-in-UnitWithdrawal
-returns-in-UnitWithdrawal c = c.withdrawal_number.ensures ∙ ap (early_number (entries (goal.at.returns-in-UnitWithdrawal c).Start)) (sym c.in-UnitWithdrawal.is)
+same : (c : Start) → SameUnits (entries c) (units_of (take c.args.n c.args.units))
+same c = counted_units (entries c) c.args.units (omega (arith, c.requires.0.few)) (λ k h. refl)
 
-pub returns-in-AquiferWithdrawal : goal.returns-in-AquiferWithdrawal
-returns-in-AquiferWithdrawal c = c.pumping_number.ensures ∙ ap (early_number (entries (goal.at.returns-in-AquiferWithdrawal c).Start)) (sym c.in-AquiferWithdrawal.is)
+ready : (c : Start) → Ready (entries c)
+ready c = ready_same (units_view c.args.units c.args.n) (entries c) (record { count = refl; unit = λ k h. refl }) c.requires.0
 
-pub returns-in-UnitTransfer : goal.returns-in-UnitTransfer
-returns-in-UnitTransfer c =
-    let start = c in
-    let t = c.in-UnitTransfer in
-    c.transfer_number.ensures
-    ∙ sym (transfer_others (entries_view start.args.units start.args.n [] 0 start.args.given) start.args.m
-    (λ k. get_or start.args.aquifers k empty_aquifer) (λ k. empty_place) t.from t.to t.volume)
-    ∙ ap (early_number (entries (goal.at.returns-in-UnitTransfer c).Start)) (sym c.in-UnitTransfer.is)
+-- The title names what is there.
+there : (c : In_ok-missing) → missing_fault c.args.n c.args.m c.args.t ≡ Ok tt
+there c = search rules
 
-pub returns-in-AquiferTransfer : goal.returns-in-AquiferTransfer
-returns-in-AquiferTransfer c = c.bringing_number.ensures ∙ ap (early_number (entries (goal.at.returns-in-AquiferTransfer c).Start)) (sym c.in-AquiferTransfer.is)
+pub goes_down-requires-clause-ready : goal.goes_down-requires-clause-ready
+goes_down-requires-clause-ready c =
+    let s = (goal.at.goes_down-requires-clause-ready c).Start in ready_same _ _ (same s) (ready s)
 
-pub returns-in-ReturningWithdrawal : goal.returns-in-ReturningWithdrawal
-returns-in-ReturningWithdrawal c = c.returning_number.ensures ∙ ap (early_number (entries (goal.at.returns-in-ReturningWithdrawal c).Start)) (sym c.in-ReturningWithdrawal.is)
+pub goes_down-requires-clause-there : goal.goes_down-requires-clause-there
+goes_down-requires-clause-there c =
+    let s = (goal.at.goes_down-requires-clause-there c).Start in
+    subst (λ (n : ℕ). missing_fault n c.args.m c.args.t ≡ Ok tt) (sym (same s).count) (there (goal.at.goes_down-requires-clause-there c).In_ok-missing)
+
+-- Whether the title goes down is the same over the counted units and over all entries.
+way : (c : After-goes_down) → c.goes_down.result ≡ goes_down (entries (goal.at.After-goes_down c).Start) c.args.t
+way c =
+    let s = (goal.at.After-goes_down c).Start in
+    c.goes_down.ensures ∙ goes_down_same (entries s) _ (same s) (ready s) c.args.m c.args.t (there (goal.at.After-goes_down c).In_ok-missing)
+
+pub returns-then-goes_down : goal.returns-then-goes_down
+returns-then-goes_down c = let e = way (goal.at.returns-then-goes_down c).After-goes_down in search rules
+
+pub returns-then-not-is_volume : goal.returns-then-not-is_volume
+returns-then-not-is_volume c = let e = way (goal.at.returns-then-not-is_volume c).After-goes_down in search rules
+
+pub returns-then-given-ge-TITLES : goal.returns-then-given-ge-TITLES
+returns-then-given-ge-TITLES c = let e = way (goal.at.returns-then-given-ge-TITLES c).After-goes_down in search rules
+
+pub returns-then-overfull : goal.returns-then-overfull
+returns-then-overfull c = let e = way (goal.at.returns-then-overfull c).After-goes_down in search rules
+
+pub returns : goal.returns
+returns c = let e = way (goal.at.returns c).After-goes_down in search rules

@@ -9,8 +9,4 @@ use Rattle.refusal.specs.Grant.{in_deficit}
 use Rattle.refusal.proofs.water.dry_by.Given as goal
 
 abbrev pub invariant-loop-i : goal.invariant-loop-i
-invariant-loop-i l =
-    (l.i ≤ l.n) × ((k : ℕ) → k < l.i → (eqb (get_or l.ends k 0) l.outlet && in_deficit (get_or l.figures k no_unit_figures)) ≡ false)
-
-abbrev pub decreases-loop-i : goal.decreases-loop-i
-decreases-loop-i l = l.n - l.i
+invariant-loop-i l = (k : ℕ) → k < l.i → (eqb (get_or l.ends k 0) l.outlet && in_deficit (get_or l.figures k no_unit_figures)) ≡ false

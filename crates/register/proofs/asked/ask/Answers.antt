@@ -1,16 +1,16 @@
 -- `register::ask` meets its contract. Assumes nothing.
+use Rattle.std.specs.Prelude.{Ok}
 use mathlib.Core.Path.{◌≡◌, sym, ◌∙◌}
-use Rattle.model.specs.declared.Answer.TheVariants.{Accepted}
 use Rattle.model.specs.View.{view_of}
 use Rattle.basin.proofs.Soundness.{soundness}
 use Rattle.register.specs.Calls.{call_reply}
 use Rattle.register.proofs.Keeping.{refused_keeps, accepted_number, accepted_from_sound}
 use Rattle.register.proofs.asked.ask.Goals as goal
-use Rattle.register.proofs.asked.ask.Goals.{In-Accepted}
+use Rattle.register.proofs.asked.ask.Goals.{In-Ok}
 
 -- The call is accepted.
-accepted : (c : In-Accepted) → let start = c in (call_reply start.args.b start.args.c).answer ≡ Accepted
-accepted c = sym c.in-Accepted.ensures
+accepted : (c : In-Ok) → let start = c in (call_reply start.args.b start.args.c).answer ≡ Ok tt
+accepted c = sym c.in-Ok.ensures
 
 pub number_of-requires : goal.number_of-requires
 number_of-requires c =
@@ -19,12 +19,12 @@ number_of-requires c =
 
 pub perform-requires : goal.perform-requires
 perform-requires c =
-    accepted (goal.at.perform-requires c).In-Accepted
+    accepted (goal.at.perform-requires c).In-Ok
 
-pub returns-in-Accepted : goal.returns-in-Accepted
-returns-in-Accepted c =
+pub returns-in-Ok : goal.returns-in-Ok
+returns-in-Ok c =
     let start = c in
-    let e = accepted (goal.at.returns-in-Accepted c).In-Accepted in
+    let e = accepted (goal.at.returns-in-Ok c).In-Ok in
     λ i.
     record {
       answer = sym e i;
@@ -32,9 +32,9 @@ returns-in-Accepted c =
       balance = c.perform.ensures.value i;
     }
 
-pub returns-in-Refused : goal.returns-in-Refused
-returns-in-Refused c =
+pub returns-in-Err : goal.returns-in-Err
+returns-in-Err c =
     let start = c in
-    let e = sym c.in-Refused.ensures in
+    let e = sym c.in-Err.ensures in
     let k = refused_keeps start.args.b start.args.c _ e in
     c.refused.ensures ∙ (λ i. record { answer = sym e i; number = sym k.1 i; balance = sym k.0 i })

@@ -1,5 +1,5 @@
 -- `register::cancel_answer` meets its contract. Assumes nothing.
-use Prim.Native.Nat.{ℕ}
+use Prim.Native.Nat.{ℕ, ◌-◌}
 use mathlib.Core.Path.{◌≡◌, sym, ap, subst⁻¹, ◌∙◌}
 use mathlib.Core.Bool.{true, not}
 use lib.ListN.{get_or}
@@ -30,7 +30,7 @@ pub returns-then-b-k : goal.returns-then-b-k
 returns-then-b-k c =
     let start = c in
     ap (λ (r : Reply). r.answer) (reply_not_in_force start.args.b start.args.number start.requires
-    (not_given (view_of start.args.b) start.args.number c.if-b-k.true))
+    (not_given (view_of start.args.b) start.args.number (rw c.from-k.ensures at c.if-b-k.true)))
 
 pub bounds-b-k : goal.bounds-b-k
 bounds-b-k c =
@@ -43,8 +43,8 @@ returns-then-not-in_force c =
     let b = start.args.b in
     let n = start.args.number in
     ap (λ (r : Reply). r.answer) (reply_not_in_force b n start.requires
-    (out_of_force (view_of b) n (omega arith) (omega arith)
-    (sym (ap (λ (k : ℕ). (get_or b.titles k empty_place).in_force) (sub-one n)) ∙ c.if-not-in_force.true)))
+    (out_of_force (view_of b) n (omega (arith, c.from-k.ensures)) (omega (arith, c.from-k.ensures))
+    (sym (ap (λ (k : ℕ). (get_or b.titles (k - 1) empty_place).in_force) c.from-k.ensures ∙ ap (λ (k : ℕ). (get_or b.titles k empty_place).in_force) (sub-one n)) ∙ c.if-not-in_force.true)))
 
 -- The number is in force.
 stands : (c : Else-not-in_force) → let start = c in number_in_force (view_of start.args.b) start.args.number ≡ true
@@ -52,8 +52,8 @@ stands c =
     let start = c in
     let b = start.args.b in
     let n = start.args.number in
-    is_in_force (view_of b) n (omega arith) (omega arith)
-    (sym (ap (λ (k : ℕ). (get_or b.titles k empty_place).in_force) (sub-one n)) ∙ c.if-not-in_force.false)
+    is_in_force (view_of b) n (omega (arith, c.from-k.ensures)) (omega (arith, c.from-k.ensures))
+    (sym (ap (λ (k : ℕ). (get_or b.titles (k - 1) empty_place).in_force) c.from-k.ensures ∙ ap (λ (k : ℕ). (get_or b.titles k empty_place).in_force) (sub-one n)) ∙ c.if-not-in_force.false)
 
 pub needed-requires : goal.needed-requires
 needed-requires c =
@@ -62,7 +62,7 @@ needed-requires c =
     let n = start.args.number in
     let q = stands (goal.at.needed-requires c).Else-not-in_force in
     subst⁻¹ (λ (k : ℕ). let t = (get_or b.titles k empty_place).title in
-    UnitsHeld t b.units × Ready (units_view (lowered_units t b.units) b.unit_count)) (sub-one n)
+    UnitsHeld t b.units × Ready (units_view (lowered_units t b.units) b.unit_count)) (ap (λ (k : ℕ). k - 1) c.from-k.ensures ∙ sub-one n)
     ((takable b n start.requires q).units, lowered_ready b n start.requires q c.sized.ensures)
 
 -- What the flows without the title say of the balance.
@@ -73,7 +73,7 @@ flows c =
     let b = start.args.b in
     let n = start.args.number in
     c.needed.ensures
-    ∙ ap (λ (k : ℕ). not (flowing (units_view (lowered_units (get_or b.titles k empty_place).title b.units) b.unit_count))) (sub-one n)
+    ∙ ap (λ (k : ℕ). not (flowing (units_view (lowered_units (get_or b.titles k empty_place).title b.units) b.unit_count))) (ap (λ (k : ℕ). k - 1) c.from-k.ensures ∙ sub-one n)
     ∙ ap not (lowered_flowing b n start.requires (stands (goal.at.After-needed c).Else-not-in_force) c.sized.ensures)
 
 pub returns-then-needed : goal.returns-then-needed

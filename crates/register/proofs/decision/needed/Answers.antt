@@ -1,16 +1,16 @@
 -- `register::needed` meets its contract. Assumes nothing.
-use mathlib.Core.Path.{refl, sym, ap, subst⁻¹, ◌∙◌}
+use Rattle.std.proofs.Common.{refl, ap, ◌∙◌, take, arith}
+use Rattle.model.specs.View.{View}
+use Rattle.river.proofs.Units.{SameUnits, counted_units, ready_same, negative_same}
+use Rattle.std.specs.Prelude.{is_some}
+use mathlib.Core.Path.{subst⁻¹}
 use mathlib.Core.Bool.{not}
 use mathlib.Core.List.{List}
-use lib.ListN.{take}
 use lib.Signed.{non_neg}
-use native.Mathlib.Omega.{arith}
 use Rattle.model.specs.declared.Unit.{Unit}
-use Rattle.model.specs.View.{View}
 use Rattle.river.specs.Flow.{Ready, flow}
 use Rattle.river.specs.Units.{units_view, units_of}
-use Rattle.river.proofs.Units.{SameUnits, counted_units, ready_same, negative_same}
-use Rattle.river.proofs.Firsts.{nothing_every, at_fails}
+use Rattle.river.proofs.Firsts.{some_fails}
 use Rattle.basin.specs.Sound.{flowing}
 use Rattle.register.proofs.decision.needed.Goals as goal
 use Rattle.register.proofs.decision.needed.Goals.{After-lowered_units-less}
@@ -30,14 +30,9 @@ first_negative-requires c =
     let less = (goal.at.first_negative-requires c).After-lowered_units-less in
     ready_same _ _ (same less) (ready less)
 
-pub returns-in-Nothing : goal.returns-in-Nothing
-returns-in-Nothing c =
-    let less = (goal.at.returns-in-Nothing c).After-lowered_units-less in
-    ap not (sym (nothing_every (λ j. non_neg (flow (view less) j)) _ (sym (negative_same _ _ (same less)) ∙ sym c.in-Nothing.ensures)))
-    ∙ ap (λ (us : List Unit). not (flowing (units_view us c.args.n))) c.lowered_units-less.ensures
-
-pub returns-in-At : goal.returns-in-At
-returns-in-At c =
-    let less = (goal.at.returns-in-At c).After-lowered_units-less in
-    ap not (sym (at_fails (λ j. non_neg (flow (view less) j)) _ _ (sym (negative_same _ _ (same less)) ∙ sym c.in-At.ensures)))
+pub returns : goal.returns
+returns c =
+    c.is_some.ensures
+    ∙ ap is_some (c.first_negative.ensures ∙ negative_same _ _ (same (goal.at.returns c).After-lowered_units-less))
+    ∙ some_fails (λ j. non_neg (flow (units_view c.lowered_units-less.result c.args.n) j)) c.args.n
     ∙ ap (λ (us : List Unit). not (flowing (units_view us c.args.n))) c.lowered_units-less.ensures

@@ -1,7 +1,7 @@
 -- `register::perform` meets its contract. Assumes nothing.
+use Rattle.std.specs.Prelude.{Ok}
 use mathlib.Core.Path.{◌≡◌, sym, ap, subst, ◌∙◌}
 use native.Mathlib.Omega.{arith}
-use Rattle.model.specs.declared.Answer.TheVariants.{Accepted}
 use Rattle.model.specs.declared.Balance.{Balance}
 use Rattle.model.specs.declared.Call.{Call}
 use Rattle.model.specs.View.{view_of}
@@ -28,12 +28,12 @@ kept b c r z e = record { value = e; b_value = call_keeps b c z ∙ ap (λ (x : 
 granted : (c : In-Grant) → Given c.args.b c.in-Grant.title
 granted c =
     let start = c in
-    grant_given start.args.b _ (subst (λ (x : Call). (call_reply start.args.b x).answer ≡ Accepted) c.in-Grant.is start.requires)
+    grant_given start.args.b _ (subst (λ (x : Call). (call_reply start.args.b x).answer ≡ Ok tt) c.in-Grant.is start.requires)
 
 released : (c : In-Cancel) → Released c.args.b c.in-Cancel.number
 released c =
     let start = c in
-    cancel_released start.args.b _ (subst (λ (x : Call). (call_reply start.args.b x).answer ≡ Accepted) c.in-Cancel.is start.requires)
+    cancel_released start.args.b _ (subst (λ (x : Call). (call_reply start.args.b x).answer ≡ Ok tt) c.in-Cancel.is start.requires)
 
 pub post-requires : goal.post-requires
 post-requires c =
