@@ -202,7 +202,7 @@ impl AquiferEntry {
 }
 
 // What stands at an index.
-fn at<T>(places: &mut [T], index: usize) -> Result<&mut T, ReadError> {
+pub(crate) fn at<T>(places: &mut [T], index: usize) -> Result<&mut T, ReadError> {
     places.get_mut(index).ok_or(ReadError::NoSuchPlace)
 }
 

@@ -1,5 +1,5 @@
 // The commands that the file `states` gives: calls on a state, and changes of it.
-use crate::change::Change;
+use crate::change::{Change, at};
 use crate::dump::StateDump;
 use crate::lines::Subject;
 use crate::numbers::{Numbers, ReadError};
@@ -89,34 +89,26 @@ impl Command {
         match self {
             Command::Keep(name) => {
                 let reply = planning::keep(*state, name);
-                planned(out, state, "kept", reply)
+                planned(out, state, "kept", reply)?;
             }
             Command::GoBack(name) => {
                 let reply = planning::back(*state, name);
-                planned(out, state, "back", reply)
+                planned(out, state, "back", reply)?;
             }
             Command::Withdraw { unit, volume } => {
                 let reply = register::withdraw(balance, unit, 1, volume);
-                asked(out, state, "given", reply)
+                asked(out, state, "given", reply)?;
             }
             Command::Cancel { number } => {
                 let reply = register::cancel(balance, number);
-                asked(out, state, "cancelled", reply)
+                asked(out, state, "cancelled", reply)?;
             }
-            Command::SetCount(count) => {
-                state.count = count;
-                Ok(())
-            }
-            Command::SetName { place, name } => {
-                *state.names.get_mut(place).ok_or(ReadError::NoSuchPlace)? = name;
-                Ok(())
-            }
-            Command::SetKept { place } => {
-                *state.kept.get_mut(place).ok_or(ReadError::NoSuchPlace)? = balance;
-                Ok(())
-            }
-            Command::Change(change) => Ok(change.make(&mut state.balance)?),
+            Command::SetCount(count) => state.count = count,
+            Command::SetName { place, name } => *at(&mut state.names, place)? = name,
+            Command::SetKept { place } => *at(&mut state.kept, place)? = balance,
+            Command::Change(change) => change.make(&mut state.balance)?,
         }
+        Ok(())
     }
 }
 
