@@ -45,9 +45,9 @@ fn tested(b: Balance, at: usize) -> Result<Opened, Failure>
 {
     if let Some(j) = first_missing(&b) {
         return Err(Failure {
- refusal: Refusal::BadDownstream,
- place: j + 1,
- });
+            refusal: Refusal::BadDownstream,
+            place: j + 1,
+        });
     }
     if let Some(j) = river::first_negative(&b.units[..b.unit_count]) {
         return Err(Failure {
@@ -128,9 +128,9 @@ fn read(s: &[u8]) -> Result<Opened, Failure>
         }
     }
     Err(Failure {
- refusal: Refusal::Short,
- place: at,
- })
+        refusal: Refusal::Short,
+        place: at,
+    })
 }
 
 // Opening a book: a refused one hands back the fresh balance.

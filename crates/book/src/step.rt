@@ -124,9 +124,9 @@ pub fn next(p: &Progress, s: &[u8], at: usize) -> Result<Next, Failure>
     }
     if left == 1 {
         return Err(Failure {
- refusal: Refusal::Short,
- place: at,
- });
+            refusal: Refusal::Short,
+            place: at,
+        });
     }
     match mark_of(s[at], s[at + 1]) {
         Some(Mark::Un) => unit_step(p, s, at),
@@ -137,8 +137,8 @@ pub fn next(p: &Progress, s: &[u8], at: usize) -> Result<Next, Failure>
         Some(Mark::Ac) => aquifer_step(p, s, at),
         Some(Mark::Call) => Ok(Next::Ends),
         None => Err(Failure {
- refusal: Refusal::UnknownMark,
- place: at,
- }),
+            refusal: Refusal::UnknownMark,
+            place: at,
+        }),
     }
 }

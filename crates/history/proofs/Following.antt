@@ -1,4 +1,5 @@
 -- The program's state follows what was asked, request by request. Assumes nothing.
+use Rattle.std.specs.Prelude.{Some, None, Ok}
 use Prim.Native.Nat.{ℕ, ◌+◌, ◌≤◌, ◌<◌}
 use mathlib.Core.Path.{◌≡◌, sym, ap, subst⁻¹, ◌∙◌}
 use mathlib.Core.Bool.{Bool, true, false, cond, not, ◌&&◌, true≢false}
@@ -11,10 +12,10 @@ use Rattle.laws.specs.Table.{table}
 use Rattle.laws.proofs.Cases.{by_bool, by_lt}
 use Rattle.laws.proofs.Every.{each_every}
 use Rattle.laws.proofs.Arrays.{table_at, table_put, table_same, table_more}
+use Rattle.model.specs.declared.Refusal.TheVariants.{FifthName, NoSuchName}
 use Rattle.model.specs.declared.Balance.{Balance}
 use Rattle.model.specs.declared.Call.{Call}
-use Rattle.model.specs.declared.Found.TheVariants.{At, Nothing}
-use Rattle.model.specs.Answers.{none, refuse}
+use Rattle.model.specs.Answers.{refuse}
 use Rattle.model.specs.Fresh.{fresh_balance}
 use Rattle.model.specs.View.{view_of}
 use Rattle.river.proofs.Firsts.{first_same}
@@ -102,7 +103,7 @@ module _ (d : Description) (b : Balance) (f : Follows d b start) (a : Asked) (w 
       (ap (line_after n (name_at a.names k)) (sym e))
       (λ j g q. ap (line_after n (name_at a.names j)) (sym (other n k j h g e q)))
 
-  keep_found : (n : Name) (k : ℕ) → place_of a.names (length a.names) n ≡ At k → k < length a.names
+  keep_found : (n : Name) (k : ℕ) → place_of a.names (length a.names) n ≡ Some k → k < length a.names
       → same_name (name_at a.names k) n ≡ true → among a.names n ≡ true → Step d b a (keep n)
   keep_found n k p h e q =
       let r = keep_again (described b a) n sound_described k (place_same n ∙ p) in
@@ -111,7 +112,7 @@ module _ (d : Description) (b : Balance) (f : Follows d b start) (a : Asked) (w 
             ap (λ (y : Reply). y.state) r
             ∙ (λ i. record { balance = after b a.current; names = (described b a).names; kept = replaced n k h e i; count = length a.names })
             ∙ ap (described b) (sym (kept_again a n q));
-        tells = ap said_in r ∙ sym (λ i. saying (refuse 22 (not (q i) && leb place_limit (length a.names)) none) 0);
+        tells = ap said_in r ∙ sym (λ i. saying (refuse FifthName (not (q i) && leb place_limit (length a.names)) (Ok tt)) 0);
         well = subst⁻¹ Well (kept_again a n q) (well_replacing a n w);
       }
 
@@ -137,7 +138,7 @@ module _ (d : Description) (b : Balance) (f : Follows d b start) (a : Asked) (w 
       (sym ((λ i. line_after n (name_last a.names n i) (same_name (name_last a.names n i) n)) ∙ ap (line_after n n) (same_self n)))
       ∙ (λ i. table place_limit fresh_balance (sym (one_longer a.names n) i) line)
 
-  keep_added : (n : Name) → place_of a.names (length a.names) n ≡ Nothing
+  keep_added : (n : Name) → place_of a.names (length a.names) n ≡ None
       → ((k : ℕ) → k < length a.names → same_name (name_at a.names k) n ≡ false) → among a.names n ≡ false
       → length a.names < place_limit → Step d b a (keep n)
   keep_added n p none-same q h =
@@ -149,18 +150,18 @@ module _ (d : Description) (b : Balance) (f : Follows d b start) (a : Asked) (w 
             ap (λ (y : Reply). y.state) r
             ∙ (λ i. record { balance = after b a.current; names = added_names n h i; kept = added_kept n h none-same i; count = counted i })
             ∙ ap (described b) (sym (kept_new a n q full));
-        tells = ap said_in r ∙ sym (λ i. saying (refuse 22 (not (q i) && full i) none) 0);
+        tells = ap said_in r ∙ sym (λ i. saying (refuse FifthName (not (q i) && full i) (Ok tt)) 0);
         well = subst⁻¹ Well (kept_new a n q full) (well_adding a n w h none-same);
       }
 
-  keep_refused_lem : (n : Name) → place_of a.names (length a.names) n ≡ Nothing → among a.names n ≡ false
+  keep_refused_lem : (n : Name) → place_of a.names (length a.names) n ≡ None → among a.names n ≡ false
       → place_limit ≤ length a.names → Step d b a (keep n)
   keep_refused_lem n p q h =
       let r = keep_fifth (described b a) n sound_described (place_same n ∙ p) h in
       let full = le-leb place_limit (length a.names) h in
       record {
         holds = ap (λ (y : Reply). y.state) r ∙ ap (described b) (sym (kept_fifth a n q full));
-        tells = ap said_in r ∙ sym (λ i. saying (refuse 22 (not (q i) && full i) none) 0);
+        tells = ap said_in r ∙ sym (λ i. saying (refuse FifthName (not (q i) && full i) (Ok tt)) 0);
         well = subst⁻¹ Well (kept_fifth a n q full) w;
       }
 
@@ -183,14 +184,14 @@ module _ (d : Description) (b : Balance) (f : Follows d b start) (a : Asked) (w 
               count = length a.names;
             })
             ∙ ap (described b) (sym (back_found a n q));
-        tells = ap said_in r ∙ sym (λ i. saying (refuse 23 (not (q i)) none) 0);
+        tells = ap said_in r ∙ sym (λ i. saying (refuse NoSuchName (not (q i)) (Ok tt)) 0);
         well = subst⁻¹ Well (back_found a n q) (record { few = w.few; apart = w.apart; steady = w.steady });
       }
   back_step n (absent p none-same q) =
       let r = back_none (described b a) n sound_described (place_same n ∙ p) in
       record {
         holds = ap (λ (y : Reply). y.state) r ∙ ap (described b) (sym (back_absent a n q));
-        tells = ap said_in r ∙ sym (λ i. saying (refuse 23 (not (q i)) none) 0);
+        tells = ap said_in r ∙ sym (λ i. saying (refuse NoSuchName (not (q i)) (Ok tt)) 0);
         well = subst⁻¹ Well (back_absent a n q) w;
       }
 

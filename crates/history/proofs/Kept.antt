@@ -1,4 +1,5 @@
 -- Names kept in a list: where one is found, and what holds of what was asked. Assumes nothing.
+use Rattle.std.specs.Prelude.{Option, Some, None, Ok}
 use Prim.Native.Nat.{ℕ, zero, suc, ◌≤◌, ◌<◌}
 use mathlib.Core.Path.{◌≡◌, refl, sym, ap, ◌∙◌}
 use mathlib.Core.Bool.{Bool, true, false, cond, not, ◌&&◌, ◌||◌, true≢false}
@@ -8,9 +9,8 @@ use lib.ListN.{length, length-append, get_or-append}
 use lib.Seq.{get_or-append_seam}
 use native.Mathlib.Omega.{arith}
 use Rattle.laws.proofs.Cases.{by_bool, by_eq}
-use Rattle.model.specs.declared.Found.{Found}
-use Rattle.model.specs.declared.Found.TheVariants.{At, Nothing}
-use Rattle.model.specs.Answers.{none, refuse}
+use Rattle.model.specs.declared.Refusal.TheVariants.{FifthName, NoSuchName}
+use Rattle.model.specs.Answers.{refuse}
 use Rattle.river.proofs.Firsts.{at_first, nothing_passed}
 use Rattle.planning.specs.declared.Name.{Name}
 use Rattle.planning.specs.Names.{place_limit, same_name, name_at, place_of}
@@ -19,8 +19,8 @@ use Rattle.history.specs.Asked.{keep, back, Asked, nothing_asked, among, unless_
 
 -- A name is found in a list, or it is at no place of it.
 pub data Sought (ms : List Name) (n : Name) : Type 0 where
-  found : (k : ℕ) → place_of ms (length ms) n ≡ At k → k < length ms → same_name (name_at ms k) n ≡ true → among ms n ≡ true → Sought ms n
-  absent : place_of ms (length ms) n ≡ Nothing → ((k : ℕ) → k < length ms → same_name (name_at ms k) n ≡ false) → among ms n ≡ false → Sought ms n
+  found : (k : ℕ) → place_of ms (length ms) n ≡ Some k → k < length ms → same_name (name_at ms k) n ≡ true → among ms n ≡ true → Sought ms n
+  absent : place_of ms (length ms) n ≡ None → ((k : ℕ) → k < length ms → same_name (name_at ms k) n ≡ false) → among ms n ≡ false → Sought ms n
 
 or_second : (a b : Bool) → b ≡ true → a || b ≡ true
 or_second true b e = refl
@@ -37,9 +37,9 @@ unfolding among
 none_among [] n f = refl
 none_among (m ∷ ms) n f = λ i. f 0 (omega arith) i || none_among ms n (λ k h. f (suc k) (omega arith)) i
 
-sought_by : (ms : List Name) (n : Name) (f : Found) → place_of ms (length ms) n ≡ f → Sought ms n
-sought_by ms n (At k) e = let p = at_first _ (length ms) k e in found k e p.0 p.2 (at_among ms n k p.0 p.2)
-sought_by ms n Nothing e = let p = nothing_passed _ (length ms) e in absent e p (none_among ms n p)
+sought_by : (ms : List Name) (n : Name) (f : Option ℕ) → place_of ms (length ms) n ≡ f → Sought ms n
+sought_by ms n (Some k) e = let p = at_first _ (length ms) k e in found k e p.0 p.2 (at_among ms n k p.0 p.2)
+sought_by ms n None e = let p = nothing_passed _ (length ms) e in absent e p (none_among ms n p)
 
 pub sought : (ms : List Name) (n : Name) → Sought ms n
 sought ms n = sought_by ms n (place_of ms (length ms) n) refl
@@ -86,7 +86,7 @@ apart_more ms n f g k j h i =
 -- Keeping and going back by whether the name is used and whether four are kept.
 abbrev keep_by : Asked → Name → Bool → Bool → Asked
 keep_by a n used full =
-    unless_refused (refuse 22 (not used && full) none)
+    unless_refused (refuse FifthName (not used && full) (Ok tt))
     (record {
       current = a.current;
       names = cond used a.names (a.names ++ (n ∷ []));
@@ -110,10 +110,10 @@ module _ (a : Asked) (n : Name) where
   kept_fifth e f = λ i. keep_by a n (e i) (f i)
 
   pub back_found : among a.names n ≡ true → asking a (back n) ≡ record { current = a.line n; names = a.names; line = a.line }
-  back_found e = λ i. unless_refused (refuse 23 (not (e i)) none) (record { current = a.line n; names = a.names; line = a.line }) a
+  back_found e = λ i. unless_refused (refuse NoSuchName (not (e i)) (Ok tt)) (record { current = a.line n; names = a.names; line = a.line }) a
 
   pub back_absent : among a.names n ≡ false → asking a (back n) ≡ a
-  back_absent e = λ i. unless_refused (refuse 23 (not (e i)) none) (record { current = a.line n; names = a.names; line = a.line }) a
+  back_absent e = λ i. unless_refused (refuse NoSuchName (not (e i)) (Ok tt)) (record { current = a.line n; names = a.names; line = a.line }) a
 
   pub well_replacing : Well a → Well (replacing a n)
   well_replacing w = record { few = w.few; apart = w.apart; steady = steady_line a n w }

@@ -1,4 +1,5 @@
 -- The sentences of document 02 [3], of what was asked. Assumes nothing.
+use Rattle.std.specs.Prelude.{Ok, Err}
 use Prim.Native.Nat.{suc}
 use mathlib.Core.Path.{◌≡◌, refl, sym, ap, subst⁻¹, ◌∙◌}
 use mathlib.Core.Bool.{Bool, true, false, cond, not, ◌||◌, true≢false}
@@ -6,10 +7,11 @@ use mathlib.Core.List.{List, [], ◌∷◌, ◌++◌, append_assoc, append-nil}
 use borrow.Author.Tests.{not-true}
 use Rattle.laws.proofs.Cases.{by_bool}
 use Rattle.laws.proofs.Every.{both}
+use Rattle.model.specs.declared.Refusal.TheVariants.{NoSuchName}
 use Rattle.model.specs.declared.Call.{Call}
 use Rattle.model.specs.declared.Call.TheVariants.{Grant}
 use Rattle.model.specs.declared.Title.{Title}
-use Rattle.model.specs.Answers.{Refusal, none, number, refuse}
+use Rattle.model.specs.Answers.{Answer, refuse}
 use Rattle.book.specs.Reading.{Description}
 use Rattle.conservation.specs.Demand3.{start, tally_refusal, tallied}
 use Rattle.conservation.specs.Replies.{Said, number_for, saying}
@@ -48,8 +50,8 @@ apart_sym m n e = by_bool (same_name n m) (λ p. absurd (true≢false (sym (same
 
 -- What a keeping that is not refused puts under its name, and what it leaves under others.
 module _ (a : Asked) (n : Name) where
-  accepted : keep_refused a n ≡ none → asking a (keep n) ≡ kept_under a n
-  accepted e = ap (λ (r : Refusal). unless_refused r (kept_under a n) a) e
+  accepted : keep_refused a n ≡ Ok tt → asking a (keep n) ≡ kept_under a n
+  accepted e = ap (λ (r : Answer). unless_refused r (kept_under a n) a) e
 
   kept_now : Held (kept_under a n) n a.current
   kept_now =
@@ -62,7 +64,7 @@ module _ (a : Asked) (n : Name) where
       }
 
   -- Keeping puts the current list of calls under the name.
-  pub keeps : keep_refused a n ≡ none → Held (asking a (keep n)) n a.current
+  pub keeps : keep_refused a n ≡ Ok tt → Held (asking a (keep n)) n a.current
   keeps e = subst⁻¹ (λ (x : Asked). Held x n a.current) (accepted e) kept_now
 
   -- Nothing else of what is kept changes.
@@ -79,21 +81,21 @@ module _ (a : Asked) (n : Name) where
             line = ap (λ (t : Bool). cond t a.current (a.line m)) e ∙ h.line;
           }
 
-      by_refusal : (r : Refusal) → Held (unless_refused r (kept_under a n) a) m l
-      by_refusal none = kept_on
-      by_refusal (number k) = h
+      by_refusal : (r : Answer) → Held (unless_refused r (kept_under a n) a) m l
+      by_refusal (Ok u) = kept_on
+      by_refusal (Err k) = h
 
   -- Going back makes the list under the name the current one, and leaves all that is kept.
   pub goes_back : (l : List Call) → Held a n l → (asking a (back n)).current ≡ l
   goes_back l h =
-      ap (λ (t : Bool). (unless_refused (refuse 23 (not t) none) (returned a n) a).current) h.used ∙ h.line
+      ap (λ (t : Bool). (unless_refused (refuse NoSuchName (not t) (Ok tt)) (returned a n) a).current) h.used ∙ h.line
 
   pub back_leaves : (m : Name) (l : List Call) → Held a m l → Held (asking a (back n)) m l
   back_leaves m l h = by_refusal (back_refused a n)
     where
-      by_refusal : (r : Refusal) → Held (unless_refused r (returned a n) a) m l
-      by_refusal none = record { used = h.used; line = h.line }
-      by_refusal (number k) = h
+      by_refusal : (r : Answer) → Held (unless_refused r (returned a n) a) m l
+      by_refusal (Ok u) = record { used = h.used; line = h.line }
+      by_refusal (Err k) = h
 
 -- What is kept under a name stays so while the name is not kept again.
 held_on : (a : Asked) (n : Name) (l : List Call) → Held a n l → (rs : List Request) → leaves n rs ≡ true → Held (history a rs) n l
@@ -116,7 +118,7 @@ calls_append a [] = sym (append-nil a.current)
 calls_append a (c ∷ cs) = calls_append (asking a (ask c)) cs ∙ append_assoc a.current (c ∷ []) cs
 
 -- For someone who went back, the list of calls is the one up to the keeping, followed by those after the return.
-pub list_of_one_who_went_back : (a : Asked) (n : Name) (rs : List Request) (cs : List Call) → keep_refused a n ≡ none → leaves n rs ≡ true
+pub list_of_one_who_went_back : (a : Asked) (n : Name) (rs : List Request) (cs : List Call) → keep_refused a n ≡ Ok tt → leaves n rs ≡ true
     → (history a (keep n ∷ (rs ++ (back n ∷ calls cs)))).current ≡ a.current ++ cs
 unfolding history
 list_of_one_who_went_back a n rs cs e g =
@@ -132,13 +134,13 @@ said_after d l c = saying (tally_refusal d (tallied d start l) c) (number_for (t
 
 -- A title number given after going back may repeat one from the abandoned line: a grant before the return and one after it, neither of
 -- them refused, are told the same number.
-pub numbers_repeat : (d : Description) (a : Asked) (n : Name) (x y : Title) → keep_refused a n ≡ none
-    → tally_refusal d (tallied d start a.current) (Grant x) ≡ none → tally_refusal d (tallied d start a.current) (Grant y) ≡ none
+pub numbers_repeat : (d : Description) (a : Asked) (n : Name) (x y : Title) → keep_refused a n ≡ Ok tt
+    → tally_refusal d (tallied d start a.current) (Grant x) ≡ Ok tt → tally_refusal d (tallied d start a.current) (Grant y) ≡ Ok tt
     → tellings d a (keep n ∷ ask (Grant x) ∷ back n ∷ ask (Grant y) ∷ [])
-    ≡ (saying none 0
-    ∷ saying none (suc (tallied d start a.current).last)
-    ∷ saying none 0
-    ∷ saying none (suc (tallied d start a.current).last)
+    ≡ (saying (Ok tt) 0
+    ∷ saying (Ok tt) (suc (tallied d start a.current).last)
+    ∷ saying (Ok tt) 0
+    ∷ saying (Ok tt) (suc (tallied d start a.current).last)
     ∷ [])
 unfolding tellings
 numbers_repeat d a n x y e p q =
@@ -148,8 +150,8 @@ numbers_repeat d a n x y e p q =
     let h : Held second n a.current = record { used = (keeps a n e).used; line = (keeps a n e).line } in
     λ i.
     saying (e i) 0
-    ∷ (ap (λ (l : List Call). said_after d l (Grant x)) same ∙ ap (λ (r : Refusal). saying r (suc (tallied d start a.current).last)) p) i
-    ∷ saying (refuse 23 (not (h.used i)) none) 0
+    ∷ (ap (λ (l : List Call). said_after d l (Grant x)) same ∙ ap (λ (r : Answer). saying r (suc (tallied d start a.current).last)) p) i
+    ∷ saying (refuse NoSuchName (not (h.used i)) (Ok tt)) 0
     ∷ (ap (λ (l : List Call). said_after d l (Grant y)) (goes_back second n a.current h)
-    ∙ ap (λ (r : Refusal). saying r (suc (tallied d start a.current).last)) q) i
+    ∙ ap (λ (r : Answer). saying r (suc (tallied d start a.current).last)) q) i
     ∷ []

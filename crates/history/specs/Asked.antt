@@ -1,8 +1,9 @@
 -- What a list of requests comes to, by what they ask alone (document 02 [3]): "For someone who went back, the list of calls is the one up to
 -- the keeping, followed by those after the return." No reply and no balance is among the arguments. Assumes nothing.
-use Rattle.std.specs.Prelude.{Bool, true, false, cond, not, ◌&&◌, ◌||◌, List, [], ◌∷◌, ◌++◌, leb, length}
+use Rattle.std.specs.Prelude.{Bool, true, false, cond, not, ◌&&◌, ◌||◌, List, [], ◌∷◌, ◌++◌, leb, length, Ok, Err}
+use Rattle.model.specs.declared.Refusal.TheVariants.{FifthName, NoSuchName}
 use Rattle.model.specs.declared.Call.{Call}
-use Rattle.model.specs.Answers.{Refusal, none, number, refuse}
+use Rattle.model.specs.Answers.{Answer, refuse}
 use Rattle.book.specs.Reading.{Description}
 use Rattle.conservation.specs.Demand3.{start, tally_refusal, tallied}
 use Rattle.conservation.specs.Replies.{Said, number_for, saying}
@@ -32,11 +33,11 @@ among [] n = false
 among (m ∷ ms) n = same_name m n || among ms n
 
 -- Keeping: 22 a fifth name. Going back: 23 no such name.
-abbrev pub keep_refused : Asked → Name → Refusal
-keep_refused a n = refuse 22 (not (among a.names n) && leb place_limit (length a.names)) none
+abbrev pub keep_refused : Asked → Name → Answer
+keep_refused a n = refuse FifthName (not (among a.names n) && leb place_limit (length a.names)) (Ok tt)
 
-abbrev pub back_refused : Asked → Name → Refusal
-back_refused a n = refuse 23 (not (among a.names n)) none
+abbrev pub back_refused : Asked → Name → Answer
+back_refused a n = refuse NoSuchName (not (among a.names n)) (Ok tt)
 
 -- An ordinary call goes to the end of the list.
 abbrev pub called : Asked → Call → Asked
@@ -56,9 +57,9 @@ abbrev pub returned : Asked → Name → Asked
 returned a n = record { current = a.line n; names = a.names; line = a.line }
 
 -- On a refusal nothing changes at all.
-abbrev pub unless_refused : Refusal → Asked → Asked → Asked
-unless_refused none new old = new
-unless_refused (number k) new old = old
+abbrev pub unless_refused : Answer → Asked → Asked → Asked
+unless_refused (Ok u) new old = new
+unless_refused (Err k) new old = old
 
 abbrev pub asking : Asked → Request → Asked
 asking a (ask c) = called a c

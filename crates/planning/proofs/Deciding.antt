@@ -1,4 +1,5 @@
 -- What is decided on keeping and going back, by the tests that are made; and the replies by what was decided. Assumes nothing.
+use Rattle.std.specs.Prelude.{Option, Some, None}
 use Prim.Native.Nat.{ℕ, ◌≤◌, ◌<◌}
 use mathlib.Core.Path.{◌≡◌, refl}
 use mathlib.Core.Bool.{Bool, true, false}
@@ -6,8 +7,6 @@ use lib.Dec.{leb}
 use native.Mathlib.Omega.{arith}
 use borrow.Author.Tests.{le-leb, lt-leb, leb-false}
 use Rattle.laws.proofs.Cases.{by_bool}
-use Rattle.model.specs.declared.Found.{Found}
-use Rattle.model.specs.declared.Found.TheVariants.{At, Nothing}
 use Rattle.planning.specs.declared.Name.{Name}
 use Rattle.planning.specs.declared.State.{State}
 use Rattle.planning.specs.declared.Keeping.TheVariants.{Refused as NotKept, Again, Anew}
@@ -18,34 +17,34 @@ use Rattle.planning.specs.Calls.{place_in, keep_reply, back_reply}
 use Rattle.planning.specs.Decision.{keep_decision, back_decision, keep_as, back_as}
 use Rattle.planning.proofs.Replying.{standing, keep_by, back_by, place_within}
 
-pub keep_found : (test : Bool) (f : Found) (n k : ℕ) → test ≡ true → f ≡ At k → Again k ≡ keep_decision test f n
+pub keep_found : (test : Bool) (f : Option ℕ) (n k : ℕ) → test ≡ true → f ≡ Some k → Again k ≡ keep_decision test f n
 keep_found test f n k e p = rw (p, e)
 
-pub keep_full : (test : Bool) (f : Found) (n : ℕ) → test ≡ true → f ≡ Nothing → place_limit ≤ n → NotKept 22 ≡ keep_decision test f n
+pub keep_full : (test : Bool) (f : Option ℕ) (n : ℕ) → test ≡ true → f ≡ None → place_limit ≤ n → NotKept 22 ≡ keep_decision test f n
 keep_full test f n e p h = rw (p, e, le-leb place_limit n h)
 
-pub keep_free : (test : Bool) (f : Found) (n : ℕ) → test ≡ true → f ≡ Nothing → n < place_limit → Anew ≡ keep_decision test f n
+pub keep_free : (test : Bool) (f : Option ℕ) (n : ℕ) → test ≡ true → f ≡ None → n < place_limit → Anew ≡ keep_decision test f n
 keep_free test f n e p h = rw (p, e, lt-leb place_limit n h)
 
-pub back_found : (test : Bool) (f : Found) (k : ℕ) → test ≡ true → f ≡ At k → To k ≡ back_decision test f
+pub back_found : (test : Bool) (f : Option ℕ) (k : ℕ) → test ≡ true → f ≡ Some k → To k ≡ back_decision test f
 back_found test f k e p = rw (p, e)
 
-pub back_missing : (test : Bool) (f : Found) → test ≡ true → f ≡ Nothing → NoReturn 23 ≡ back_decision test f
+pub back_missing : (test : Bool) (f : Option ℕ) → test ≡ true → f ≡ None → NoReturn 23 ≡ back_decision test f
 back_missing test f e p = rw (p, e)
 
 -- The replies are those of the decisions.
-keep_as_decided : (s : State) (n : Name) (test : Bool) (f : Found) (count : ℕ)
+keep_as_decided : (s : State) (n : Name) (test : Bool) (f : Option ℕ) (count : ℕ)
     → keep_by s n test f (leb place_limit count) ≡ keep_as s n (keep_decision test f count)
-keep_as_decided s n true (At k) count = refl
-keep_as_decided s n false (At k) count = refl
-keep_as_decided s n true Nothing count = by_bool (leb place_limit count) (λ q. rw q refl) (λ q. rw q refl)
-keep_as_decided s n false Nothing count = refl
+keep_as_decided s n true (Some k) count = refl
+keep_as_decided s n false (Some k) count = refl
+keep_as_decided s n true None count = by_bool (leb place_limit count) (λ q. rw q refl) (λ q. rw q refl)
+keep_as_decided s n false None count = refl
 
-back_as_decided : (s : State) (test : Bool) (f : Found) → back_by s test f ≡ back_as s (back_decision test f)
-back_as_decided s true (At k) = refl
-back_as_decided s false (At k) = refl
-back_as_decided s true Nothing = refl
-back_as_decided s false Nothing = refl
+back_as_decided : (s : State) (test : Bool) (f : Option ℕ) → back_by s test f ≡ back_as s (back_decision test f)
+back_as_decided s true (Some k) = refl
+back_as_decided s false (Some k) = refl
+back_as_decided s true None = refl
+back_as_decided s false None = refl
 
 pub keep_decided : (s : State) (n : Name) → keep_reply s n ≡ keep_as s n (keep_decision (sound_state s) (place_in s n) s.count)
 keep_decided s n = keep_as_decided s n (sound_state s) (place_in s n) s.count
@@ -54,33 +53,33 @@ pub back_decided : (s : State) (n : Name) → back_reply s n ≡ back_as s (back
 back_decided s n = back_as_decided s (sound_state s) (place_in s n)
 
 -- What a decision says of the test and of the place.
-again_of : (test : Bool) (f : Found) (n k : ℕ) → keep_decision test f n ≡ Again k → (test ≡ true) × (f ≡ At k)
-again_of true (At j) n k e = (refl, cc)
-again_of false (At j) n k e = cc
-again_of true Nothing n k e =
+again_of : (test : Bool) (f : Option ℕ) (n k : ℕ) → keep_decision test f n ≡ Again k → (test ≡ true) × (f ≡ Some k)
+again_of true (Some j) n k e = (refl, cc)
+again_of false (Some j) n k e = cc
+again_of true None n k e =
     by_bool (leb place_limit n)
     (λ q. let z : NotKept 22 ≡ Again k = rw q at e in cc)
     (λ q. let z : Anew ≡ Again k = rw q at e in cc)
-again_of false Nothing n k e = cc
+again_of false None n k e = cc
 
-anew_of : (test : Bool) (f : Found) (n : ℕ) → keep_decision test f n ≡ Anew → n < place_limit
-anew_of true (At j) n e = cc
-anew_of false (At j) n e = cc
-anew_of true Nothing n e =
+anew_of : (test : Bool) (f : Option ℕ) (n : ℕ) → keep_decision test f n ≡ Anew → n < place_limit
+anew_of true (Some j) n e = cc
+anew_of false (Some j) n e = cc
+anew_of true None n e =
     by_bool (leb place_limit n)
     (λ q. let z : NotKept 22 ≡ Anew = rw q at e in cc)
     (λ q. leb-false _ _ q)
-anew_of false Nothing n e = cc
+anew_of false None n e = cc
 
-to_of : (test : Bool) (f : Found) (k : ℕ) → back_decision test f ≡ To k → (test ≡ true) × (f ≡ At k)
-to_of true (At j) k e = (refl, cc)
-to_of false (At j) k e = cc
-to_of true Nothing k e = cc
-to_of false Nothing k e = cc
+to_of : (test : Bool) (f : Option ℕ) (k : ℕ) → back_decision test f ≡ To k → (test ≡ true) × (f ≡ Some k)
+to_of true (Some j) k e = (refl, cc)
+to_of false (Some j) k e = cc
+to_of true None k e = cc
+to_of false None k e = cc
 
 -- A place that is decided on is one of the four.
 module _ (s : State) (n : Name) where
-  found_within : (k : ℕ) → (sound_state s ≡ true) × (place_in s n ≡ At k) → k < place_limit
+  found_within : (k : ℕ) → (sound_state s ≡ true) × (place_in s n ≡ Some k) → k < place_limit
   found_within k p = omega (arith, (standing s p.0).few, place_within s n k p.1)
 
   pub again_within : (k : ℕ) → keep_decision (sound_state s) (place_in s n) s.count ≡ Again k → k < place_limit

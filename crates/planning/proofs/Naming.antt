@@ -1,4 +1,5 @@
 -- Names: when two are the same, and which are kept. Assumes nothing.
+use Rattle.std.specs.Prelude.{Some, None}
 use Prim.Native.Nat.{ℕ}
 use mathlib.Core.Path.{◌≡◌, sym, ap, ◌∙◌}
 use mathlib.Core.Logic.{◌↔◌}
@@ -14,7 +15,6 @@ use Rattle.std.proofs.lemmas.Cmp.{nat_list_eq_equiv}
 use Rattle.laws.specs.Sum.{every}
 use Rattle.laws.proofs.Cases.{by_bool}
 use Rattle.laws.proofs.Every.{every_each, each_every, every_fails}
-use Rattle.model.specs.declared.Found.TheVariants.{At, Nothing}
 use Rattle.river.proofs.Firsts.{nothing_passed, at_first}
 use Rattle.planning.specs.declared.Name.{Name}
 use Rattle.planning.specs.Names.{name_length, same_name, place_of}
@@ -54,8 +54,8 @@ same_each a b p q =
     (λ g. e ∙ sym g))
 
 -- No place before one has a name exactly where the search of the name among them finds nothing.
-pub none_before : (names : ℕ → Name) (k : ℕ) (n : Name) → place_of names k n ≡ Nothing → every k (λ j. not (same_name (names j) n)) ≡ true
+pub none_before : (names : ℕ → Name) (k : ℕ) (n : Name) → place_of names k n ≡ None → every k (λ j. not (same_name (names j) n)) ≡ true
 none_before names k n e = each_every _ k (λ j h. ap not (nothing_passed _ k e j h))
 
-pub some_before : (names : ℕ → Name) (k i : ℕ) (n : Name) → place_of names k n ≡ At i → every k (λ j. not (same_name (names j) n)) ≡ false
+pub some_before : (names : ℕ → Name) (k i : ℕ) (n : Name) → place_of names k n ≡ Some i → every k (λ j. not (same_name (names j) n)) ≡ false
 some_before names k i n e = let f = at_first _ k i e in every_fails _ k i f.0 (ap not f.2)

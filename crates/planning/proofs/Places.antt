@@ -18,7 +18,6 @@ use Rattle.std.proofs.lemmas.List.Sums.{fails_before_first}
 use Rattle.laws.specs.Sum.{every}
 use Rattle.laws.proofs.Cases.{by_bool}
 use Rattle.laws.proofs.Every.{every_same}
-use Rattle.model.specs.declared.Found.TheVariants.{At, Nothing}
 use Rattle.model.specs.Answers.{first}
 use Rattle.model.specs.View.{view_of}
 use Rattle.river.proofs.Firsts.{first_at, first_nothing, first_same}
@@ -30,10 +29,10 @@ use Rattle.planning.specs.State.{no_kept, name_at, kept_sound}
 
 module _ {X : Type 0} (p : X → Bool) (xs : List X) (d : X) where
   -- The position of an element in a list is the first of its places.
-  pub position_at : (i : ℕ) → position p xs ≡ Some i → first (length xs) (λ k. p (get_or xs k d)) ≡ At i
+  pub position_at : (i : ℕ) → position p xs ≡ Some i → first (length xs) (λ k. p (get_or xs k d)) ≡ Some i
   position_at i e = let f = position-Some p xs i d e in first_at _ (length xs) i f.0 f.2 f.1
 
-  pub position_nothing : position p xs ≡ None → first (length xs) (λ k. p (get_or xs k d)) ≡ Nothing
+  pub position_nothing : position p xs ≡ None → first (length xs) (λ k. p (get_or xs k d)) ≡ None
   position_nothing e =
       by_bool (ltb (position_or_len p xs) (length xs))
       (λ q. let z : Some (position_or_len p xs) ≡ None = rw q at e in cc)

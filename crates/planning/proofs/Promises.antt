@@ -1,4 +1,5 @@
 -- What opening, keeping and going back promise of every state. Assumes nothing.
+use Rattle.std.specs.Prelude.{Option, Some, None, Ok, Err}
 use Prim.Native.Nat.{ℕ, ◌+◌, ◌<◌}
 use mathlib.Core.Path.{◌≡◌, refl, sym, ap, subst⁻¹, ◌∙◌}
 use mathlib.Core.Logic.{◌↔◌}
@@ -10,11 +11,8 @@ use native.Mathlib.Omega.{arith}
 use Rattle.laws.specs.Sum.{every}
 use Rattle.laws.proofs.Cases.{by_bool, by_eq, by_lt}
 use Rattle.laws.proofs.Every.{every_each, each_every}
-use Rattle.model.specs.declared.Answer.TheVariants.{Accepted, Refused}
 use Rattle.model.specs.declared.Balance.{Balance}
-use Rattle.model.specs.declared.Found.{Found}
-use Rattle.model.specs.declared.Found.TheVariants.{At, Nothing}
-use Rattle.model.specs.Answers.{Refusal, none, number}
+use Rattle.model.specs.Answers.{Answer}
 use Rattle.model.specs.View.{view_of}
 use Rattle.river.proofs.Firsts.{nothing_passed}
 use Rattle.basin.specs.Sound.{sound}
@@ -64,7 +62,7 @@ names_same kept k b h = λ i j. each j i
         (λ q. ap (λ (x : Kept). x.name) (get_or-set_other kept k j _ _ q))
 
 -- A name that is not yet kept leaves all names different.
-names_put : (kept : List Kept) (n : ℕ) (x : Kept) → n < length kept → distinct (name_at kept) n ≡ true → place_of (name_at kept) n x.name ≡ Nothing
+names_put : (kept : List Kept) (n : ℕ) (x : Kept) → n < length kept → distinct (name_at kept) n ≡ true → place_of (name_at kept) n x.name ≡ None
     → distinct (name_at (set kept n x)) (n + 1) ≡ true
 unfolding distinct
 names_put kept n x h all new =
@@ -82,7 +80,7 @@ names_put kept n x h all new =
     (λ t. not (same_name (other t) (here t))) ∙ every_each _ k (every_each _ n all k (omega arith)) j i)))
 
 module _ (s : State) (n : Name) (z : Sized s) (e : sound_state s ≡ true) where
-  kept_again_sound : (k : ℕ) → place_in s n ≡ At k → sound_state (keep_reply s n).state ≡ true
+  kept_again_sound : (k : ℕ) → place_in s n ≡ Some k → sound_state (keep_reply s n).state ≡ true
   kept_again_sound k p =
       let w = standing s e in
       let h = place_within s n k p in
@@ -96,7 +94,7 @@ module _ (s : State) (n : Name) (z : Sized s) (e : sound_state s ≡ true) where
         apart = ap (λ (f : ℕ → Name). distinct f s.count) (names_same s.kept k s.balance l) ∙ w.apart;
       }))
 
-  kept_new_sound : place_in s n ≡ Nothing → s.count < place_limit → sound_state (keep_reply s n).state ≡ true
+  kept_new_sound : place_in s n ≡ None → s.count < place_limit → sound_state (keep_reply s n).state ≡ true
   kept_new_sound p h =
       let w = standing s e in
       let l : s.count < length s.kept = omega (arith, z.kept) in
@@ -109,19 +107,19 @@ module _ (s : State) (n : Name) (z : Sized s) (e : sound_state s ≡ true) where
         apart = names_put s.kept s.count _ l w.apart p;
       }))
 
-  kept_sound_by : (f : Found) → place_in s n ≡ f → sound_state (keep_reply s n).state ≡ true
-  kept_sound_by (At k) p = kept_again_sound k p
-  kept_sound_by Nothing p =
+  kept_sound_by : (f : Option ℕ) → place_in s n ≡ f → sound_state (keep_reply s n).state ≡ true
+  kept_sound_by (Some k) p = kept_again_sound k p
+  kept_sound_by None p =
       by_lt s.count place_limit (kept_new_sound p)
       (λ h. subst⁻¹ (λ (r : Reply). sound_state r.state ≡ true) (keep_fifth s n e p h) e)
 
-  back_sound_by : (f : Found) → place_in s n ≡ f → sound_state (back_reply s n).state ≡ true
+  back_sound_by : (f : Option ℕ) → place_in s n ≡ f → sound_state (back_reply s n).state ≡ true
   unfolding kept_sound
-  back_sound_by (At k) p =
+  back_sound_by (Some k) p =
       let w = standing s e in
       subst⁻¹ (λ (r : Reply). sound_state r.state ≡ true) (back_to s n e k p)
       (stands _ (record { current = every_each _ s.count w.kept k (place_within s n k p); few = w.few; kept = w.kept; apart = w.apart }))
-  back_sound_by Nothing p = subst⁻¹ (λ (r : Reply). sound_state r.state ≡ true) (back_none s n e p) e
+  back_sound_by None p = subst⁻¹ (λ (r : Reply). sound_state r.state ≡ true) (back_none s n e p) e
 
 -- Keeping and going back hand back a state that is sound exactly if the one handed in is.
 module _ (s : State) (n : Name) (z : Sized s) where
@@ -138,24 +136,24 @@ module _ (s : State) (n : Name) (z : Sized s) where
       (λ e. ap (λ (r : Reply). sound_state r.state) (back_faulty s n e))
 
 -- What a reply says: accepted exactly if no refusal applies; refused, the state is the old one.
-replied_exactly : (r : Refusal) (old new : State) → ((replied r old new).answer ≡ Accepted) ↔ (r ≡ none)
-replied_exactly none old new = (λ e. refl, λ e. refl)
-replied_exactly (number k) old new = (λ e. cc, λ e. cc)
+replied_exactly : (r : Answer) (old new : State) → ((replied r old new).answer ≡ Ok tt) ↔ (r ≡ Ok tt)
+replied_exactly (Ok u) old new = (λ e. refl, λ e. refl)
+replied_exactly (Err k) old new = (λ e. cc, λ e. cc)
 
-replied_refused : (r : Refusal) (old new : State) (k : ℕ) → (replied r old new).answer ≡ Refused k → (replied r old new).state ≡ old
-replied_refused none old new k e = cc
-replied_refused (number m) old new k e = refl
+replied_refused : (r : Answer) (old new : State) (k : ℕ) → (replied r old new).answer ≡ Err k → (replied r old new).state ≡ old
+replied_refused (Ok u) old new k e = cc
+replied_refused (Err m) old new k e = refl
 
 -- On every state keeping and going back are accepted exactly when none of their refusals applies, 0 included.
-pub keep_accepted_exactly : (s : State) (n : Name) → ((keep_reply s n).answer ≡ Accepted) ↔ (keep_refusal s n ≡ none)
+pub keep_accepted_exactly : (s : State) (n : Name) → ((keep_reply s n).answer ≡ Ok tt) ↔ (keep_refusal s n ≡ Ok tt)
 keep_accepted_exactly s n = replied_exactly (keep_refusal s n) s (keeping s n)
 
-pub back_accepted_exactly : (s : State) (n : Name) → ((back_reply s n).answer ≡ Accepted) ↔ (back_refusal s n ≡ none)
+pub back_accepted_exactly : (s : State) (n : Name) → ((back_reply s n).answer ≡ Ok tt) ↔ (back_refusal s n ≡ Ok tt)
 back_accepted_exactly s n = replied_exactly (back_refusal s n) s (going_back s n)
 
 -- A refused one hands back the very state that was handed in.
-pub keep_refused_lem : (s : State) (n : Name) (k : ℕ) → (keep_reply s n).answer ≡ Refused k → (keep_reply s n).state ≡ s
+pub keep_refused_lem : (s : State) (n : Name) (k : ℕ) → (keep_reply s n).answer ≡ Err k → (keep_reply s n).state ≡ s
 keep_refused_lem s n k e = replied_refused (keep_refusal s n) s (keeping s n) k e
 
-pub back_refused_lem : (s : State) (n : Name) (k : ℕ) → (back_reply s n).answer ≡ Refused k → (back_reply s n).state ≡ s
+pub back_refused_lem : (s : State) (n : Name) (k : ℕ) → (back_reply s n).answer ≡ Err k → (back_reply s n).state ≡ s
 back_refused_lem s n k e = replied_refused (back_refusal s n) s (going_back s n) k e

@@ -1,9 +1,7 @@
 -- Names of eight bytes, and the places that hold them. Assumes nothing.
-use Rattle.std.specs.Prelude.{ℕ, Bool, true, false, not, eqb}
+use Rattle.std.specs.Prelude.{ℕ, Bool, true, false, not, eqb, Option, Some, None}
 use Rattle.std.specs.Cmp.Lexicographic.{pointwise}
 use Rattle.laws.specs.Sum.{every}
-use Rattle.model.specs.declared.Found.{Found}
-use Rattle.model.specs.declared.Found.TheVariants.{At, Nothing}
 use Rattle.model.specs.Answers.{first}
 use Rattle.planning.specs.declared.Name.{Name}
 
@@ -19,13 +17,13 @@ abbrev pub same_name : Name → Name → Bool
 same_name a b = pointwise eqb a.bytes b.bytes
 
 -- The first of n places that has a name.
-abbrev pub place_of : (ℕ → Name) → ℕ → Name → Found
+abbrev pub place_of : (ℕ → Name) → ℕ → Name → Option ℕ
 place_of names n name = first n (λ k. same_name (names k) name)
 
 -- There is such a place.
-abbrev pub is_found : Found → Bool
-is_found (At k) = true
-is_found Nothing = false
+abbrev pub is_found : Option ℕ → Bool
+is_found (Some k) = true
+is_found None = false
 
 -- No two of n places have the same name.
 unfoldable pub distinct : (ℕ → Name) → ℕ → Bool

@@ -6,7 +6,6 @@ ghost use Rattle.planning.specs.Decision as decisions;
 
 use crate::names::place_of;
 use crate::{Keeping, Name, Returning, State};
-use model::Found;
 
 // Keeping: refused with 0 or 22, in the place that has the name, or in the next one. `sound` says what the test for 0 gave.
 pub fn decide_keep(s: &State, sound: bool, name: Name) -> Keeping
@@ -17,9 +16,9 @@ pub fn decide_keep(s: &State, sound: bool, name: Name) -> Keeping
         return Keeping::Refused { code: 0 };
     }
     match place_of(&s.kept[..s.count], name) {
-        Found::At(place) => Keeping::Again { place },
-        Found::Nothing if s.count < State::PLACES => Keeping::Anew,
-        Found::Nothing => Keeping::Refused { code: 22 },
+        Some(place) => Keeping::Again { place },
+        None if s.count < State::PLACES => Keeping::Anew,
+        None => Keeping::Refused { code: 22 },
     }
 }
 
@@ -32,7 +31,7 @@ pub fn decide_back(s: &State, sound: bool, name: Name) -> Returning
         return Returning::Refused { code: 0 };
     }
     match place_of(&s.kept[..s.count], name) {
-        Found::At(place) => Returning::To { place },
-        Found::Nothing => Returning::Refused { code: 23 },
+        Some(place) => Returning::To { place },
+        None => Returning::Refused { code: 23 },
     }
 }

@@ -5,15 +5,14 @@ ghost use Rattle.planning.specs.Names as named;
 ghost use Rattle.planning.specs.State.{name_at};
 
 use crate::{Kept, Name};
-use model::Found;
 
 // The first of some places that has a name, if one has it.
-pub(crate) fn place_of(kept: &[Kept], name: Name) -> Found
+pub(crate) fn place_of(kept: &[Kept], name: Name) -> Option<usize>
     ensures { result ≡ named.place_of (name_at kept.now) (length kept.now) name }
 {
     match kept.iter().position(|held| held.name == name) {
-        Some(place) => Found::At(place),
-        None => Found::Nothing,
+        Some(place) => Some(place),
+        None => None,
     }
 }
 
@@ -22,7 +21,7 @@ fn is_new(kept: &[Kept], place: usize) -> bool
     requires { place < length kept.now }
     ensures { result ≡ every place (λ k. not (named.same_name (name_at kept.now k) (name_at kept.now place))) }
 {
-    matches!(place_of(&kept[..place], kept[place].name), Found::Nothing)
+    matches!(place_of(&kept[..place], kept[place].name), None)
 }
 
 // No two of some places have the same name.

@@ -1,18 +1,18 @@
 -- Laws of calls made in turn, and the state of a book after its calls. Assumes nothing.
+use Rattle.std.specs.Prelude.{Ok, Err}
 use Prim.Native.Nat.{ℕ, suc, ◌+◌, ◌-◌, ◌≤◌, ◌<◌}
 use mathlib.Core.Path.{◌≡◌, sym, ap, ◌∙◌}
 use mathlib.Core.List.{List}
 use native.Mathlib.Omega.{arith}
-use Rattle.model.specs.declared.Answer.{Answer}
-use Rattle.model.specs.declared.Answer.TheVariants.{Accepted, Refused}
+use Rattle.model.specs.Answers.{Answer}
 use Rattle.planning.specs.declared.State.{State}
 use Rattle.planning.specs.declared.Opened.{Opened}
 use Rattle.planning.specs.Calls.{opened_state}
 use Rattle.planning_times.specs.Timed.{accepted, run_on, after_calls, Turn, states, counted}
 
 pub accepted_within : (a : Answer) → accepted a ≤ 1
-accepted_within Accepted = omega arith
-accepted_within (Refused n) = omega arith
+accepted_within (Ok u) = omega arith
+accepted_within (Err n) = omega arith
 
 -- The state of a book after its calls, by the answer of its opening.
 pub run_as : (book : List ℕ) (o : Opened) (x : Answer) → o ≡ opened_state book → o.answer ≡ x → run_on book x o.place o.state ≡ after_calls book

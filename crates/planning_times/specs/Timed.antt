@@ -1,7 +1,6 @@
 -- The state of a book in which four balances are kept, and how many of many calls on it are counted. Assumes nothing.
-use Rattle.std.specs.Prelude.{ℕ, zero, suc, ◌+◌, ◌-◌, ◌%◌, List, set, replicate}
-use Rattle.model.specs.declared.Answer.{Answer}
-use Rattle.model.specs.declared.Answer.TheVariants.{Accepted, Refused}
+use Rattle.std.specs.Prelude.{ℕ, zero, suc, ◌+◌, ◌-◌, ◌%◌, List, set, replicate, Ok, Err}
+use Rattle.model.specs.Answers.{Answer}
 use Rattle.model.specs.declared.Call.TheVariants.{Cancel}
 use Rattle.register.specs.Calls.{call_reply}
 use Rattle.calls.specs.Running.{ran}
@@ -16,13 +15,13 @@ name_in_turn i = record { bytes = set (replicate name_length 0) 0 (i % 4 + 1) }
 
 -- 1 for an accepted answer, 0 for a refused one.
 abbrev pub accepted : Answer → ℕ
-accepted Accepted = 1
-accepted (Refused n) = 0
+accepted (Ok u) = 1
+accepted (Err n) = 0
 
 -- The state of a book after its calls; of a refused description the fresh one.
 abbrev pub run_on : List ℕ → Answer → ℕ → State → State
-run_on book Accepted place s = with_current s (ran book place s.balance).balance
-run_on book (Refused n) place s = s
+run_on book (Ok u) place s = with_current s (ran book place s.balance).balance
+run_on book (Err n) place s = s
 
 abbrev pub after_calls : List ℕ → State
 after_calls book = run_on book (opened_state book).answer (opened_state book).place (opened_state book).state

@@ -1,4 +1,5 @@
 -- Opening a journal, by the tests that are made. Assumes nothing.
+use Rattle.std.specs.Prelude.{Err}
 use Prim.Native.Nat.{ℕ, ◌-◌, ◌≤◌, ◌<◌}
 use mathlib.Core.Path.{◌≡◌, sym, ap, ◌∙◌}
 use mathlib.Core.Bool.{Bool, true, false, cond}
@@ -8,8 +9,8 @@ use native.Mathlib.Omega.{arith}
 use borrow.Author.Tests.{lt-ltb, le-ltb}
 use Rattle.laws.proofs.Cases.{by_lt}
 use Rattle.laws.proofs.Every.{both}
-use Rattle.model.specs.declared.Answer.{Answer}
-use Rattle.model.specs.declared.Answer.TheVariants.{Refused}
+use Rattle.model.specs.declared.Refusal.TheVariants.{TooLong}
+use Rattle.model.specs.Answers.{Answer}
 use Rattle.model.specs.Fresh.{fresh_balance}
 use Rattle.planning.specs.declared.Opened.{Opened}
 use Rattle.planning.specs.State.{nothing_kept}
@@ -43,7 +44,7 @@ past_end s a place h e =
     absurd (omega arith)
 
 -- How a journal begins, by its length and by the answer of its opening.
-pub begun_long : (s : List ℕ) → journal_limit < length s → begun_by (Refused 21) journal_limit (nothing_kept fresh_balance) ≡ begun s
+pub begun_long : (s : List ℕ) → journal_limit < length s → begun_by (Err TooLong) journal_limit (nothing_kept fresh_balance) ≡ begun s
 begun_long s h = rw (lt-ltb journal_limit (length s) h)
 
 pub begun_opened : (s : List ℕ) (o : Opened) (a : Answer) → length s ≤ journal_limit → o ≡ journal_opened s → o.answer ≡ a
@@ -51,7 +52,7 @@ pub begun_opened : (s : List ℕ) (o : Opened) (a : Answer) → length s ≤ jou
 begun_opened s o a h e q =
     ap (λ (x : Answer). begun_by x o.place o.state) (sym q)
     ∙ ap (λ (x : Opened). begun_by x.answer x.place x.state) e
-    ∙ sym (ap (λ (t : Bool). cond t (begun_by (Refused 21) journal_limit (nothing_kept fresh_balance)) (begun_by (journal_opened s).answer (journal_opened s).place (journal_opened s).state)) (le-ltb journal_limit (length s) h))
+    ∙ sym (ap (λ (t : Bool). cond t (begun_by (Err TooLong) journal_limit (nothing_kept fresh_balance)) (begun_by (journal_opened s).answer (journal_opened s).place (journal_opened s).state)) (le-ltb journal_limit (length s) h))
 
 -- A journal that goes on is not too long.
 pub begun_short : (s : List ℕ) → (begun s).more ≡ true → length s ≤ journal_limit

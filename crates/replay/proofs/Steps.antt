@@ -1,11 +1,11 @@
 -- What each kind of record does to the state and to the two tests for 0, by what was decided. Assumes nothing.
+use Rattle.std.specs.Prelude.{Ok, Err}
 use Prim.Native.Nat.{ℕ}
 use mathlib.Core.Path.{◌≡◌, sym, ap, subst, ◌∙◌}
 use mathlib.Core.Bool.{Bool, true, ◌&&◌}
 use lib.Dec.{leb}
 use lib.ListN.{length}
-use Rattle.model.specs.declared.Answer.{Answer}
-use Rattle.model.specs.declared.Answer.TheVariants.{Accepted, Refused}
+use Rattle.model.specs.Answers.{Answer}
 use Rattle.model.specs.declared.Balance.{Balance}
 use Rattle.model.specs.declared.Call.{Call}
 use Rattle.model.specs.View.{view_of}
@@ -85,17 +85,17 @@ module _ (test whole : Bool) (st : State) (t : Tested test whole st) where
   back_as_lem n d x e q = ap (back_as st) (sym (returned_decision n d x e q)) ∙ sym (back_decided st n)
 
 -- The text of a refused call, and of a keeping and a return by their replies.
-pub refused_text : (k : ℕ) (b : Balance) (c : Call) (a : Answer) (x : ℕ) → a ≡ (call_reply b c).answer → a ≡ Refused x
+pub refused_text : (k : ℕ) (b : Balance) (c : Call) (a : Answer) (x : ℕ) → a ≡ (call_reply b c).answer → a ≡ Err x
     → call_refused k x ≡ call_text k c (call_reply b c).answer (call_reply b c).number
 refused_text k b c a x e q = ap (λ (y : Answer). call_text k c y (call_reply b c).number) (sym q ∙ e)
 
-pub accepted_text_lem : (k : ℕ) (b : Balance) (c : Call) (a : Answer) (n : ℕ) → a ≡ (call_reply b c).answer → a ≡ Accepted → n ≡ call_number b.given c
+pub accepted_text_lem : (k : ℕ) (b : Balance) (c : Call) (a : Answer) (n : ℕ) → a ≡ (call_reply b c).answer → a ≡ Ok tt → n ≡ call_number b.given c
     → accepted_text k c n ≡ call_text k c (call_reply b c).answer (call_reply b c).number
 accepted_text_lem k b c a n e q m =
-    let given : Accepted ≡ (call_reply b c).answer = sym q ∙ e in
+    let given : (Ok u) ≡ (call_reply b c).answer = sym q ∙ e in
     subst (λ (x : Answer). accepted_text k c n ≡ call_text k c x (call_reply b c).number) given
     (ap (accepted_text k c) (m ∙ sym (accepted_number b c (sym given))))
 
 -- A refused call leaves the state.
-pub refused_state : (st : State) (c : Call) (a : Answer) (x : ℕ) → a ≡ (call_reply st.balance c).answer → a ≡ Refused x → st ≡ state_after st (ask c)
+pub refused_state : (st : State) (c : Call) (a : Answer) (x : ℕ) → a ≡ (call_reply st.balance c).answer → a ≡ Err x → st ≡ state_after st (ask c)
 refused_state st c a x e q = ap (with_current st) (sym (refused_keeps st.balance c x (sym e ∙ q)).0)

@@ -1,7 +1,7 @@
 -- All that is printed for a journal. Assumes nothing.
-use Rattle.std.specs.Prelude.{ℕ, ◌+◌, Bool, true, false, cond, ◌&&◌, List, [], ◌++◌, eqb, ltb, length, take}
-use Rattle.model.specs.declared.Answer.{Answer}
-use Rattle.model.specs.declared.Answer.TheVariants.{Accepted, Refused}
+use Rattle.std.specs.Prelude.{ℕ, ◌+◌, Bool, true, false, cond, ◌&&◌, List, [], ◌++◌, eqb, ltb, length, take, Ok, Err}
+use Rattle.model.specs.declared.Refusal.TheVariants.{TooLong}
+use Rattle.model.specs.Answers.{Answer}
 use Rattle.model.specs.Fresh.{fresh_balance}
 use Rattle.model.specs.View.{view_of}
 use Rattle.planning.specs.declared.State.{State}
@@ -23,8 +23,8 @@ is_own None = false
 
 -- The refusal of an unknown mark.
 abbrev pub unknown : Answer → Bool
-unknown Accepted = false
-unknown (Refused n) = eqb n 2
+unknown (Ok u) = false
+unknown (Err n) = eqb n 2
 
 -- A mark of a journal alone stands where the book reader met an unknown one.
 abbrev pub ends_there : List ℕ → Answer → ℕ → Bool
@@ -41,13 +41,13 @@ journal_limit = 1048576
 
 -- How a journal begins: an accepted description prints nothing yet, a refused one `refused N at P`, and nothing follows.
 abbrev pub begun_by : Answer → ℕ → State → Page
-begun_by Accepted place st = record { text = []; state = st; next = place; count = 0; more = true }
-begun_by (Refused n) place st = record { text = refused_line n place; state = st; next = place; count = 0; more = false }
+begun_by (Ok u) place st = record { text = []; state = st; next = place; count = 0; more = true }
+begun_by (Err n) place st = record { text = refused_line n place; state = st; next = place; count = 0; more = false }
 
 -- One that is too long is printed as a refused description, place 1048576, and leaves the fresh state.
 abbrev pub begun : List ℕ → Page
 begun s =
-    cond (ltb journal_limit (length s)) (begun_by (Refused 21) journal_limit (nothing_kept fresh_balance))
+    cond (ltb journal_limit (length s)) (begun_by (Err TooLong) journal_limit (nothing_kept fresh_balance))
     (begun_by (journal_opened s).answer (journal_opened s).place (journal_opened s).state)
 
 -- All records of a journal whose description ends at an offset. Each takes bytes, so there are no more records than bytes.
@@ -60,8 +60,8 @@ replies_text p = p.text ++ table_text (view_of p.state.balance)
 
 -- An accepted description prints its replies and its table, a refused one only `refused N at P`.
 abbrev pub opened_text : List ℕ → Answer → ℕ → State → List ℕ
-opened_text s Accepted place st = replies_text (all_replies s place st)
-opened_text s (Refused n) place st = refused_line n place
+opened_text s (Ok u) place st = replies_text (all_replies s place st)
+opened_text s (Err n) place st = refused_line n place
 
 -- A journal over 1,048,576 bytes is refused with 21, place 1048576, printed as a refused description. Otherwise what its opening gives.
 abbrev pub journal_text : List ℕ → List ℕ

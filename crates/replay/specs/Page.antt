@@ -1,7 +1,6 @@
 -- The replies to the records of a journal, one record or one page of them at a time. Assumes nothing.
-use Rattle.std.specs.Prelude.{ℕ, zero, suc, ◌+◌, ◌≡◌, Bool, true, false, cond, List, [], ◌++◌}
-use Rattle.model.specs.declared.Answer.{Answer}
-use Rattle.model.specs.declared.Answer.TheVariants.{Accepted, Refused}
+use Rattle.std.specs.Prelude.{ℕ, zero, suc, ◌+◌, ◌≡◌, Bool, true, false, cond, List, [], ◌++◌, Ok, Err}
+use Rattle.model.specs.Answers.{Answer}
 use Rattle.register.specs.Calls.{call_reply}
 use Rattle.planning.specs.declared.State.{State}
 use Rattle.planning.specs.Calls.{keep_reply, back_reply}
@@ -13,12 +12,12 @@ use Rattle.replay.specs.declared.Replayed.{Replayed}
 
 -- The line of a keeping, and of a return, at place k among the records: `kept` or `back`, or `refused` with the refusal.
 abbrev pub kept_text : ℕ → Answer → List ℕ
-kept_text k Accepted = call_kept k
-kept_text k (Refused x) = call_refused k x
+kept_text k (Ok u) = call_kept k
+kept_text k (Err x) = call_refused k x
 
 abbrev pub back_text : ℕ → Answer → List ℕ
-back_text k Accepted = call_back k
-back_text k (Refused x) = call_refused k x
+back_text k (Ok u) = call_back k
+back_text k (Err x) = call_refused k x
 
 -- The text of the reply to a request at place k, on a state.
 abbrev pub reply_text : ℕ → State → Request → List ℕ

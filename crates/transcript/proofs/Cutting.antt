@@ -1,4 +1,5 @@
 -- A mark of a journal alone ends the description as a call mark does. Assumes nothing.
+use Rattle.std.specs.Prelude.{Option, Some, None}
 use Prim.Native.Nat.{ℕ, zero, suc, ◌+◌, ◌-◌, ◌*◌, ◌≤◌, ◌<◌}
 use mathlib.Core.Path.{◌≡◌, refl, sym, ap, ap₂, subst, ◌∙◌}
 use mathlib.Core.Bool.{Bool, true, false, cond}
@@ -14,8 +15,6 @@ use Rattle.laws.specs.Signed.{signed32}
 use Rattle.laws.proofs.Cases.{by_bool, by_lt, by_eq}
 use Rattle.laws.proofs.Every.{both}
 use Rattle.model.specs.declared.Aquifer.{Aquifer}
-use Rattle.model.specs.declared.Found.{Found}
-use Rattle.model.specs.declared.Found.TheVariants.{At, Nothing}
 use Rattle.river.specs.Wells.{recharge}
 use Rattle.runoff.specs.declared.Measure.{Measure}
 use Rattle.runoff.specs.declared.Measure.TheVariants.{Millimetres, Tenths}
@@ -122,9 +121,9 @@ OtherOutcome (read d at) = Unit {0}
 OtherOutcome (refused n p) = Other n
 
 -- A unit at fault at the end is not refused under it where neither the number is it nor what follows is.
-fault_other : (n : ℕ) (f : Found) (rest : Outcome) → Other n → OtherOutcome rest → OtherOutcome (fault_at n f rest)
-fault_other n (At j) rest o r = o
-fault_other n Nothing rest o r = r
+fault_other : (n : ℕ) (f : Option ℕ) (rest : Outcome) → Other n → OtherOutcome rest → OtherOutcome (fault_at n f rest)
+fault_other n (Some j) rest o r = o
+fault_other n None rest o r = r
 
 -- The end of a description is never refused under it.
 ended_other : (d : Description) (at : ℕ) → OtherOutcome (ended d at)

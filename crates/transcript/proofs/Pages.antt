@@ -1,5 +1,6 @@
 -- What a journal promises: how far its pages go, that they join, that its records never run out, the state after them, and that it prints
 -- what a book prints where it has no record of its own. Assumes nothing.
+use Rattle.std.specs.Prelude.{Ok, Err}
 use Prim.Native.Nat.{ℕ, zero, suc, ◌+◌, ◌-◌, ◌*◌, ◌≤◌, ◌<◌}
 use mathlib.Core.Path.{◌≡◌, refl, sym, ap, ap₂, subst, ◌∙◌}
 use mathlib.Core.Bool.{Bool, true, false, cond}
@@ -9,8 +10,7 @@ use lib.ListN.{length, take}
 use native.Mathlib.Omega.{arith}
 use borrow.Author.Tests.{le-ltb}
 use Rattle.laws.proofs.Cases.{by_bool}
-use Rattle.model.specs.declared.Answer.{Answer}
-use Rattle.model.specs.declared.Answer.TheVariants.{Accepted, Refused}
+use Rattle.model.specs.Answers.{Answer}
 use Rattle.model.specs.declared.Balance.{Balance}
 use Rattle.model.specs.View.{view_of}
 use Rattle.record.specs.declared.CallAt.{CallAt}
@@ -255,10 +255,10 @@ replies_as_book s at b own =
     ∙ append_assoc (call_lines 1 b (calls_of s at)) (end_text (ending_of s at)) (table_text (view_of (after b (calls_of s at))))
 
 -- A description is printed as that of a book.
-text_as_book : (s : List ℕ) (a : Answer) (place : ℕ) (b : Balance) → (a ≡ Accepted → fails_at_own s (ending_of s place) ≡ false)
+text_as_book : (s : List ℕ) (a : Answer) (place : ℕ) (b : Balance) → (a ≡ Ok tt → fails_at_own s (ending_of s place) ≡ false)
     → opened_text s a place (nothing_kept b) ≡ answer_text s a place b
-text_as_book s Accepted place b own = replies_as_book s place b (own refl)
-text_as_book s (Refused n) place b own = refl
+text_as_book s (Ok u) place b own = replies_as_book s place b (own refl)
+text_as_book s (Err n) place b own = refl
 
 -- A journal of at most 65,536 bytes that has no record of its own prints what a book prints.
 pub prints_as_balance : (s : List ℕ) → length s ≤ 65536 → Plain s → journal_text s ≡ printed s

@@ -1,4 +1,5 @@
 -- What a program writes that begins a journal, writes page after page and then the table, is the whole text of the journal. Assumes nothing.
+use Rattle.std.specs.Prelude.{Ok, Err}
 use Prim.Native.Nat.{ℕ, ◌+◌}
 use mathlib.Core.Path.{◌≡◌, refl, sym, ap, ◌∙◌}
 use mathlib.Core.Bool.{Bool, true, false, cond}
@@ -6,8 +7,8 @@ use mathlib.Core.List.{List, [], ◌++◌, append-nil}
 use lib.ListN.{length, take}
 use borrow.Author.Tests.{lt-ltb, le-ltb}
 use Rattle.laws.proofs.Cases.{by_bool, by_lt}
-use Rattle.model.specs.declared.Answer.{Answer}
-use Rattle.model.specs.declared.Answer.TheVariants.{Accepted, Refused}
+use Rattle.model.specs.declared.Refusal.TheVariants.{TooLong}
+use Rattle.model.specs.Answers.{Answer}
 use Rattle.model.specs.declared.Balance.{Balance}
 use Rattle.model.specs.Fresh.{fresh_balance}
 use Rattle.model.specs.View.{view_of}
@@ -27,7 +28,7 @@ unfolding lines_of
 fresh_table = by_bool (sound (view_of fresh_balance)) (λ e. rw e refl) (λ e. rw e refl)
 
 -- A refused opening leaves the fresh balance.
-journal_fresh : (s : List ℕ) (t : Bool) (n : ℕ) → (cond t (opened_state (take (opened_state s).place s)) (opened_state s)).answer ≡ Refused n
+journal_fresh : (s : List ℕ) (t : Bool) (n : ℕ) → (cond t (opened_state (take (opened_state s).place s)) (opened_state s)).answer ≡ Err n
     → (cond t (opened_state (take (opened_state s).place s)) (opened_state s)).state.balance ≡ fresh_balance
 journal_fresh s true n e = (accepted_exactly (take (opened_state s).place s)).fresh n e
 journal_fresh s false n e = (accepted_exactly s).fresh n e
@@ -37,17 +38,17 @@ abbrev pub whole : List ℕ → Page → Page
 whole s p = onward p (page_of (length s + 1) 1 p.state s p.next)
 
 -- What is printed by an answer is what its beginning, the pages and the table give.
-whole_by : (s : List ℕ) (a : Answer) (place : ℕ) (st : State) → ((n : ℕ) → a ≡ Refused n → st.balance ≡ fresh_balance)
+whole_by : (s : List ℕ) (a : Answer) (place : ℕ) (st : State) → ((n : ℕ) → a ≡ Err n → st.balance ≡ fresh_balance)
     → opened_text s a place st ≡ replies_text (whole s (begun_by a place st))
-whole_by s Accepted place st f = refl
-whole_by s (Refused n) place st f =
+whole_by s (Ok u) place st f = refl
+whole_by s (Err n) place st f =
     sym (append-nil (refused_line n place))
     ∙ ap (λ (l : List ℕ). refused_line n place ++ l) (sym (ap (λ (b : Balance). table_text (view_of b)) (f n refl) ∙ fresh_table))
 
 pub whole_text : (s : List ℕ) → journal_text s ≡ replies_text (whole s (begun s))
 whole_text s =
     by_lt journal_limit (length s)
-    (λ h. rw (lt-ltb journal_limit (length s) h) (whole_by s (Refused 21) journal_limit (nothing_kept fresh_balance) (λ n e. refl)))
+    (λ h. rw (lt-ltb journal_limit (length s) h) (whole_by s (Err TooLong) journal_limit (nothing_kept fresh_balance) (λ n e. refl)))
     (λ h.
     rw (le-ltb journal_limit (length s) h)
     (whole_by s (journal_opened s).answer (journal_opened s).place (journal_opened s).state

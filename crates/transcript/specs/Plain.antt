@@ -1,6 +1,5 @@
 -- Journals with no record of their own. Assumes nothing.
-use Rattle.std.specs.Prelude.{ℕ, ◌≡◌, Bool, false, List}
-use Rattle.model.specs.declared.Answer.TheVariants.{Accepted}
+use Rattle.std.specs.Prelude.{ℕ, ◌≡◌, Bool, false, List, Ok}
 use Rattle.record.specs.declared.Ending.{Ending}
 use Rattle.record.specs.declared.Ending.TheVariants.{Finished, Failed}
 use Rattle.record.specs.Calls.{ending_of}
@@ -17,4 +16,4 @@ fails_at_own s (Failed n place) = is_own (own_at s place)
 -- after it.
 pub record Plain (s : List ℕ) : Type 0 where
   pub description : ends_there s (opened_state s).answer (opened_state s).place ≡ false
-  pub records : (opened_state s).answer ≡ Accepted → fails_at_own s (ending_of s (opened_state s).place) ≡ false
+  pub records : (opened_state s).answer ≡ Ok tt → fails_at_own s (ending_of s (opened_state s).place) ≡ false

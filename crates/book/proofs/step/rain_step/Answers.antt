@@ -3,7 +3,7 @@ use Rattle.std.proofs.Common.{◌≡◌, ap, sym, ◌∙◌, ◌+◌, Ok, pos, a
 use Rattle.laws.proofs.Signs.{whole_ok}
 use Rattle.runoff.specs.declared.Measure.TheVariants.{Tenths}
 use Rattle.runoff.specs.Year.{RainRange, in_tenths}
-use Rattle.runoff.proofs.Rain.{rain_within}
+use Rattle.runoff.proofs.RainBounds.{rain_within}
 use Rattle.record.specs.Bytes.{bits16}
 use Rattle.record.specs.Fault.{rain_fault}
 use Rattle.record.proofs.Faults.{fault_in_tenths, rain_clean}

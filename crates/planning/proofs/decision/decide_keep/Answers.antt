@@ -13,8 +13,8 @@ sought c =
     let few = c.requires c.if-not-sound.false in
     c.place_of.ensures ∙ place_taken c.args.s.now.kept c.args.s.now.count (omega arith) c.args.name
 
-pub returns-in-At : goal.returns-in-At
-returns-in-At c = keep_found _ _ _ _ c.if-not-sound.false (sym (sought (goal.at.returns-in-At c).After-place_of) ∙ c.in-At.is)
+pub returns-in-Some : goal.returns-in-Some
+returns-in-Some c = keep_found _ _ _ _ c.if-not-sound.false (sym (sought (goal.at.returns-in-Some c).After-place_of) ∙ c.in-Some.is)
 
-pub returns-in-Nothing : goal.returns-in-Nothing
-returns-in-Nothing c = keep_free _ _ _ c.if-not-sound.false (sym (sought (goal.at.returns-in-Nothing c).After-place_of) ∙ c.in-Nothing.is) c.if-s-lt-PLACES.true
+pub returns-in-None : goal.returns-in-None
+returns-in-None c = keep_free _ _ _ c.if-not-sound.false (sym (sought (goal.at.returns-in-None c).After-place_of) ∙ c.in-None.is) c.if-s-lt-PLACES.true

@@ -14,10 +14,10 @@ sought c =
     c.place_of.ensures
     ∙ place_taken c.args.kept.now c.args.place (omega arith) _
 
-pub returns-in-Nothing : goal.returns-in-Nothing
-returns-in-Nothing c =
+pub returns-in-None : goal.returns-in-None
+returns-in-None c =
     let names = name_at c.args.kept.now in
-    sym (none_before names c.args.place (names c.args.place) (sym (sought (goal.at.returns-in-Nothing c).After-place_of) ∙ c.in-Nothing.is))
+    sym (none_before names c.args.place (names c.args.place) (sym (sought (goal.at.returns-in-None c).After-place_of) ∙ c.in-None.is))
 
 pub returns-in_default : goal.returns-in_default
 returns-in_default c =

@@ -54,23 +54,23 @@ pub decide-requires : goal.decide-requires
 decide-requires c = c.loop-i.invariant.tested.balance
 
 pub number_of-number-requires : goal.number_of-number-requires
-number_of-number-requires c = (soundness _ (accepted_from_sound c.loop-i.b c.in-Calls.call (sym c.in-Accepted.ensures))).few_titles
+number_of-number-requires c = (soundness _ (accepted_from_sound c.loop-i.b c.in-Calls.call (sym c.in-Ok.ensures))).few_titles
 
 pub accepted_line-p-requires : goal.accepted_line-p-requires
 accepted_line-p-requires c = omega (arith, c.loop-i.invariant.going.written.short, c.loop-i.invariant.going.written.place, c.no_line-p.ensures.place, c.loop-i-test.true, c.requires)
 
 pub perform-b-requires : goal.perform-b-requires
-perform-b-requires c = sym c.in-Accepted.ensures
+perform-b-requires c = sym c.in-Ok.ensures
 
-pub loop-i-preserved-in-Accepted : goal.loop-i-preserved-in-Accepted
-loop-i-preserved-in-Accepted c =
+pub loop-i-preserved-in-Ok : goal.loop-i-preserved-in-Ok
+loop-i-preserved-in-Ok c =
     let cur = with_current c.loop-i.st c.loop-i.b in
     let k = c.args.first + c.loop-i.i in
     record {
       going =
           going_on c.args.s.now c.args.from c.args.first c.args.most c.args.state cur c.loop-i.at c.loop-i.i c.loop-i.invariant.going c.loop-i-test.true _ _
           (asked c.args.s.now c.loop-i.at _ _ c.in-Calls.ensures refl) _
-          (restate c.accepted_line-p.ensures (accepted_text_lem k c.loop-i.b c.in-Calls.call _ _ c.in-Accepted.ensures refl c.number_of-number.ensures))
+          (restate c.accepted_line-p.ensures (accepted_text_lem k c.loop-i.b c.in-Calls.call _ _ c.in-Ok.ensures refl c.number_of-number.ensures))
           (ap (with_current c.loop-i.st) c.perform-b.ensures.value);
       tested = tested_call c.sound-sound.result c.sound-whole.result cur c.loop-i.invariant.tested _ c.perform-b.ensures.b_value;
     }
