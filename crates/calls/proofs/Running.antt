@@ -1,16 +1,16 @@
 -- One record of the calls more, by what stands there. Assumes nothing.
-use Rattle.std.specs.Prelude.{Err}
+use Rattle.std.specs.Prelude.{Err, Ok}
 use Prim.Native.Nat.{ℕ, zero, suc, ◌-◌, ◌≤◌, ◌<◌}
 use mathlib.Core.Path.{◌≡◌, refl, sym, ap, ◌∙◌}
 use mathlib.Core.List.{List}
 use native.Mathlib.Numerals.{sub-one}
 use native.Mathlib.Omega.{arith}
+use Rattle.model.specs.declared.Refusal.{Refusal}
+use Rattle.model.specs.declared.Refusal.TheVariants.{Short}
 use Rattle.model.specs.declared.Call.{Call}
 use Rattle.model.specs.declared.Balance.{Balance}
 use Rattle.record.specs.declared.CallAt.TheVariants.{End, Fails, Asks}
-use Rattle.record.specs.declared.Ending.{Ending}
-use Rattle.record.specs.declared.Ending.TheVariants.{Finished, Failed}
-use Rattle.record.specs.Calls.{call_at, calls_from, ending_from}
+use Rattle.record.specs.Calls.{Ending, failed, call_at, calls_from, ending_from}
 use Rattle.register.specs.Calls.{call_reply, after}
 use Rattle.register.proofs.Keeping.{refused_keeps}
 use Rattle.calls.specs.declared.Ran.{Ran}
@@ -24,11 +24,11 @@ abbrev pub ended : Ending → Balance → Ran
 ended e b = record { ending = e; balance = b }
 
 module _ (left : ℕ) (s : List ℕ) (at : ℕ) (b : Balance) where
-  pub rest_ends : call_at s at ≡ End → rest (suc left) s at b ≡ ended Finished b
+  pub rest_ends : call_at s at ≡ End → rest (suc left) s at b ≡ ended (Ok tt) b
   unfolding calls_from ending_from after
   rest_ends e = rw (e, calls_from, ending_from, after)
 
-  pub rest_fails : (n : ℕ) → call_at s at ≡ Fails n → rest (suc left) s at b ≡ ended (Failed n at) b
+  pub rest_fails : (n : Refusal) → call_at s at ≡ Fails n → rest (suc left) s at b ≡ ended (failed n at) b
   unfolding calls_from ending_from after
   rest_fails n e = rw (e, calls_from, ending_from, after)
 
@@ -37,17 +37,17 @@ module _ (left : ℕ) (s : List ℕ) (at : ℕ) (b : Balance) where
   rest_asks c to e = rw (e, calls_from, ending_from, after)
 
 -- No record more is allowed.
-pub rest_none : (s : List ℕ) (at : ℕ) (b : Balance) → rest 0 s at b ≡ ended (Failed 1 at) b
+pub rest_none : (s : List ℕ) (at : ℕ) (b : Balance) → rest 0 s at b ≡ ended (failed Short at) b
 unfolding calls_from ending_from after
 rest_none s at b = refl
 
 -- The loop: what the rest gives is what the calls of the book give.
 module _ (s : List ℕ) (all : Ran) where
-  pub turn_ends : (left at : ℕ) (b : Balance) → 0 < left → rest left s at b ≡ all → call_at s at ≡ End → ended Finished b ≡ all
+  pub turn_ends : (left at : ℕ) (b : Balance) → 0 < left → rest left s at b ≡ all → call_at s at ≡ End → ended (Ok tt) b ≡ all
   turn_ends zero at b h e q = absurd (omega arith)
   turn_ends (suc left) at b h e q = sym (rest_ends left s at b q) ∙ e
 
-  pub turn_fails : (left at : ℕ) (b : Balance) (n : ℕ) → 0 < left → rest left s at b ≡ all → call_at s at ≡ Fails n → ended (Failed n at) b ≡ all
+  pub turn_fails : (left at : ℕ) (b : Balance) (n : ℕ) → 0 < left → rest left s at b ≡ all → call_at s at ≡ Fails n → ended (failed n at) b ≡ all
   turn_fails zero at b n h e q = absurd (omega arith)
   turn_fails (suc left) at b n h e q = sym (rest_fails left s at b n q) ∙ e
 
@@ -63,6 +63,6 @@ module _ (s : List ℕ) (all : Ran) where
   turn_refused left at b c to k h e q a =
       ap (λ (x : Balance). rest (left - 1) s to x) (sym (refused_keeps b c k a).0) ∙ turn_asks left at b c to h e q
 
-  pub turn_none : (left at : ℕ) (b : Balance) → left ≤ 0 → rest left s at b ≡ all → ended (Failed 1 at) b ≡ all
+  pub turn_none : (left at : ℕ) (b : Balance) → left ≤ 0 → rest left s at b ≡ all → ended (failed Short at) b ≡ all
   turn_none zero at b h e = sym (rest_none s at b) ∙ e
   turn_none (suc left) at b h e = absurd (omega arith)

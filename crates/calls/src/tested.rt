@@ -5,8 +5,8 @@ ghost use Rattle.basin.specs.Sound as sounds;
 ghost use Rattle.calls.specs.Running as running;
 
 use crate::Ran;
-use model::{Answer, Balance};
-use record::{CallAt, Ending};
+use model::{Balance, Refusal};
+use record::{CallAt, Failure};
 
 // Runs every call that stands in a book from an offset on; `sound` says what the test for 0 gave. It serves every call, since an accepted
 // call leaves a sound balance.
@@ -22,33 +22,30 @@ pub fn run_tested(s: &[u8], from: usize, balance: Balance, sound: bool) -> Ran
         match record::call_at(s, at) {
             CallAt::End => {
                 return Ran {
-                    ending: Ending::Finished,
+                    ending: Ok(()),
                     balance: b,
                 };
             }
-            CallAt::Fails { number } => {
+            CallAt::Fails { refusal } => {
                 return Ran {
-                    ending: Ending::Failed { number, place: at },
+                    ending: Err(Failure { refusal, place: at }),
                     balance: b,
                 };
             }
             CallAt::Asks { call, to } => {
                 let answer = register::decision::decide(b, sound, call);
                 at = to;
-                match answer {
-                    Answer::Accepted => {
-                        b = register::outcome::perform(b, call);
-                    }
-                    Answer::Refused(_) => {}
+                if answer.is_ok() {
+                    b = register::outcome::perform(b, call);
                 }
             }
         }
     }
     Ran {
-        ending: Ending::Failed {
-            number: 1,
+        ending: Err(Failure {
+            refusal: Refusal::Short,
             place: at,
-        },
+        }),
         balance: b,
     }
 }

@@ -28,7 +28,6 @@ use Rattle.book.specs.declared.Opened.{Opened}
 use Rattle.book.specs.Reading.{reading_from, opened}
 use Rattle.record.specs.Calls.{call_at, calls_from, calls_of, ending_from, ending_of}
 use Rattle.record.specs.Entries.{entry_at}
-use Rattle.record.specs.declared.Ending.TheVariants.{Finished}
 use Rattle.book.proofs.Promises.{opening_sound}
 use Rattle.effect.specs.Granted.{granted}
 use Rattle.refusal.specs.Grant.{no_water}
@@ -139,7 +138,7 @@ pub calls_are : calls_of printed_book 379 ≡ the_calls
 unfolding printed_book printed_description printed_calls calls_from call_at
 calls_are = refl
 
-pub ending_is : ending_of printed_book 379 ≡ Finished
+pub ending_is : ending_of printed_book 379 ≡ Ok tt
 unfolding printed_book printed_description printed_calls ending_from call_at
 ending_is = refl
 

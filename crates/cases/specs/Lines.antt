@@ -3,6 +3,7 @@ use Rattle.std.specs.Prelude.{ℕ, suc, ◌≤◌, ◌≡◌, refl, List, [], �
 use Rattle.std.proofs.Common.{sym, ap, ◌∙◌, arith}
 use Rattle.laws.specs.Sum.{sum_of}
 use Rattle.laws.specs.Gather.{gather, gather_to}
+use Rattle.model.specs.declared.Refusal.TheVariants.{NoWater, FlowNeeded}
 use Rattle.model.specs.declared.Call.{Call}
 use Rattle.model.specs.declared.Call.TheVariants.{Grant, Cancel}
 use Rattle.model.specs.declared.Balance.{Balance}
@@ -11,7 +12,6 @@ use Rattle.river.specs.Flow.{flow}
 use Rattle.river.specs.Reserve.{committed_to, committed}
 use Rattle.book.specs.declared.Opened.{Opened}
 use Rattle.book.specs.Reading.{opened}
-use Rattle.record.specs.declared.Ending.TheVariants.{Finished}
 use Rattle.record.specs.Calls.{calls_of, ending_of}
 use Rattle.register.specs.declared.Reply.{Reply}
 use Rattle.register.specs.Calls.{call_reply, after}
@@ -50,17 +50,17 @@ after_first = (runs_more {k = 1} (Grant first_title) first_reply runs_none).leav
 
 -- What is printed for a book that opens the printed balance: the lines of its calls, then the table of the balance that they leave.
 book_printed : (s : List ℕ) (cs : List Call) (text : List ℕ) (new : Balance) → length s ≤ 65536
-    → opened s ≡ record { answer = Ok tt; place = 379; balance = printed_balance } → calls_of s 379 ≡ cs → ending_of s 379 ≡ Finished
+    → opened s ≡ record { answer = Ok tt; place = 379; balance = printed_balance } → calls_of s 379 ≡ cs → ending_of s 379 ≡ Ok tt
     → Runs 1 printed_balance cs text new → printed s ≡ text ++ table_text (view_of new)
 book_printed s cs text new h opens asks ends ran =
     sym (printed_accepted s h (ap (λ (o : Opened). o.answer) opens))
     ∙ ap (λ (o : Opened). run_text s o.place o.balance) opens
     ∙ (λ i. call_lines 1 printed_balance (asks i) ++ ran_text (ends i) (after printed_balance (asks i)))
-    ∙ (λ i. ran.lines i ++ ran_text Finished (ran.leave i))
+    ∙ (λ i. ran.lines i ++ ran_text (Ok tt) (ran.leave i))
 
 -- The lines of the calls.
 abbrev pub calls_text : List ℕ
-calls_text = ascii "call 1 given 1\ncall 2 refused 17\ncall 3 refused 17\ncall 4 given 2\n"
+calls_text = ascii "call 1 given 1\ncall 2 refused NoWater\ncall 3 refused NoWater\ncall 4 given 2\n"
 
 runs : Runs 1 printed_balance the_calls calls_text last_balance
 unfolding call_given call_refused decimal decimal_below
@@ -91,7 +91,7 @@ printed_is =
 
 -- The same of the book whose well water comes back.
 abbrev pub returning_text : List ℕ
-returning_text = ascii "call 1 given 1\ncall 2 refused 17\ncall 3 given 2\ncall 4 refused 20\n"
+returning_text = ascii "call 1 given 1\ncall 2 refused NoWater\ncall 3 given 2\ncall 4 refused FlowNeeded\n"
 
 returning_runs : Runs 1 printed_balance returning_asked returning_text used_balance
 unfolding call_given call_refused decimal decimal_below

@@ -25,7 +25,6 @@ use Rattle.reach.specs.Reach.{outlet_to, outlet}
 use Rattle.book.specs.Reading.{reading_from, opened}
 use Rattle.record.specs.Calls.{call_at, calls_from, calls_of, ending_from, ending_of}
 use Rattle.record.specs.Entries.{entry_at}
-use Rattle.record.specs.declared.Ending.TheVariants.{Finished}
 use Rattle.effect.specs.Granted.{granted}
 use Rattle.effect.specs.Cancelled.{cancelled}
 use Rattle.refusal.specs.Grant.{no_water}
@@ -76,7 +75,7 @@ pub returning_asks : calls_of returning_book 379 ≡ returning_asked
 unfolding returning_book printed_description returning_calls calls_from call_at
 returning_asks = refl
 
-pub returning_ends : ending_of returning_book 379 ≡ Finished
+pub returning_ends : ending_of returning_book 379 ≡ Ok tt
 unfolding returning_book printed_description returning_calls ending_from call_at
 returning_ends = refl
 
@@ -89,7 +88,7 @@ pub released_asks : calls_of released_book 379 ≡ released_asked
 unfolding released_book printed_description released_calls calls_from call_at
 released_asks = refl
 
-pub released_ends : ending_of released_book 379 ≡ Finished
+pub released_ends : ending_of released_book 379 ≡ Ok tt
 unfolding released_book printed_description released_calls ending_from call_at
 released_ends = refl
 

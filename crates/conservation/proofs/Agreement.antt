@@ -6,6 +6,7 @@ use mathlib.Core.Logic.{◌↔◌}
 use mathlib.Core.Bool.{Bool, true, false, true≢false}
 use mathlib.Core.List.{List, [], ◌∷◌, ◌++◌}
 use native.Mathlib.Omega.{arith}
+use Rattle.model.specs.declared.Refusal.{Refusal}
 use Rattle.model.specs.declared.Title.{Title}
 use Rattle.model.specs.declared.Call.{Call}
 use Rattle.model.specs.declared.Call.TheVariants.{Grant, Cancel}
@@ -58,7 +59,7 @@ pub replies_agree : (s : List ℕ) (d : Description) (at : ℕ) → reading s �
 replies_agree s d at e = followed d (opened s).balance start (follows_start s d at e)
 
 -- A refused call returns the balance handed to it, whatever that is, and 0 as the title's number.
-pub refused_keeps : (b : Balance) (c : Call) (n : ℕ) → (call_reply b c).answer ≡ Err n → ((call_reply b c).balance ≡ b) × ((call_reply b c).number ≡ 0)
+pub refused_keeps : (b : Balance) (c : Call) (n : Refusal) → (call_reply b c).answer ≡ Err n → ((call_reply b c).balance ≡ b) × ((call_reply b c).number ≡ 0)
 refused_keeps = keeping.refused_keeps
 
 -- An accepted grant gives one number more, and no other call does.

@@ -1,4 +1,5 @@
 -- How the replies of the calls under a dashboard's make its table. Assumes nothing.
+use Rattle.record.specs.Calls.{Ending}
 use Rattle.std.specs.Prelude.{Ok, Err}
 use Prim.Native.Nat.{ℕ, ◌+◌, ◌*◌, ◌≤◌}
 use mathlib.Core.Path.{◌≡◌, sym, ap, ◌∙◌}
@@ -14,7 +15,6 @@ use Rattle.basin.specs.declared.Figures.{Figures}
 use Rattle.basin.specs.Figures.{figures_reply}
 use Rattle.book.specs.declared.Opened.{Opened}
 use Rattle.book.specs.Reading.{opened}
-use Rattle.record.specs.declared.Ending.{Ending}
 use Rattle.calls.specs.declared.Ran.{Ran}
 use Rattle.dashboard.specs.declared.Table.{Table}
 use Rattle.dashboard.specs.Table.{table_of, table_by, table_after, opened_table, book_table, balance_by, balance_after, figures_given, figured}

@@ -1,12 +1,11 @@
 -- The table of a book, as a dashboard reads it. Assumes nothing.
+use Rattle.record.specs.Calls.{Ending, failed}
 use Rattle.std.specs.Prelude.{ℕ, Bool, true, false, List, Ok, Err}
 use Rattle.model.specs.Answers.{Answer}
 use Rattle.model.specs.declared.Balance.{Balance}
 use Rattle.model.specs.View.{view_of}
 use Rattle.basin.specs.Figures.{figures_reply}
 use Rattle.book.specs.Reading.{opened}
-use Rattle.record.specs.declared.Ending.{Ending}
-use Rattle.record.specs.declared.Ending.TheVariants.{Finished, Failed}
 use Rattle.calls.specs.declared.Ran.{Ran}
 use Rattle.calls.specs.Running.{ran}
 use Rattle.dashboard.specs.declared.Table.{Table}
@@ -26,8 +25,8 @@ table_of accepted number place b =
 
 -- The table after the calls: the number and place of the record that failed, 0 if none did.
 abbrev pub table_by : Ending → Balance → Table
-table_by Finished b = table_of true 0 0 b
-table_by (Failed n place) b = table_of true n place b
+table_by (Ok u) b = table_of true 0 0 b
+table_by (Err f) b = table_of true n place b
 
 abbrev pub table_after : Ran → Table
 table_after r = table_by r.ending r.balance

@@ -6,12 +6,12 @@ use mathlib.Core.List.{List, [], ◌++◌, append-nil, append_assoc}
 use lib.ListN.{length}
 use native.Mathlib.Numerals.{add-one, sub-one}
 use native.Mathlib.Omega.{arith}
+use Rattle.model.specs.declared.Refusal.{Refusal}
 use Rattle.model.specs.declared.Call.{Call}
 use Rattle.model.specs.Answers.{Answer}
 use Rattle.model.specs.declared.Balance.{Balance}
 use Rattle.record.specs.declared.CallAt.TheVariants.{End, Fails, Asks}
-use Rattle.record.specs.declared.Ending.{Ending}
-use Rattle.record.specs.Calls.{call_at, calls_from, calls_of}
+use Rattle.record.specs.Calls.{Ending, call_at, calls_from, calls_of}
 use Rattle.register.specs.Calls.{call_reply, call_number}
 use Rattle.register.proofs.Keeping.{refused_keeps, accepted_number}
 use Rattle.calls.specs.declared.Ran.{Ran}
@@ -33,7 +33,7 @@ module _ (left k : ℕ) (s : List ℕ) (at : ℕ) (b : Balance) where
   unfolding calls_from call_lines
   left_ends e = rw (e, calls_from, call_lines) refl
 
-  left_fails : (n : ℕ) → call_at s at ≡ Fails n → lines_left (suc left) k s at b ≡ []
+  left_fails : (n : Refusal) → call_at s at ≡ Fails n → lines_left (suc left) k s at b ≡ []
   unfolding calls_from call_lines
   left_fails n e = rw (e, calls_from, call_lines) refl
 

@@ -9,6 +9,7 @@ use native.Mathlib.Omega.{arith}
 use borrow.Author.Tests.{lt-ltb, le-ltb}
 use Rattle.laws.proofs.Cases.{by_bool}
 use Rattle.laws.proofs.Arrays.{get_or_table}
+use Rattle.model.specs.declared.Refusal.{Refusal}
 use Rattle.model.specs.declared.Refusal.TheVariants.{Unsound}
 use Rattle.model.specs.Answers.{Answer}
 use Rattle.model.specs.View.{View}
@@ -26,7 +27,7 @@ use Rattle.listing.specs.Listing.{lines_of, unit_text, aquifer_text, table_text,
 pub figures_sound : (v : View) → (figures_reply v).answer ≡ Ok tt → sound v ≡ true
 figures_sound v e = by_bool (sound v) (λ q. q) (λ q. let z : Err Unsound ≡ Ok tt = rw q at e in let w : ◌≡◌ {A = ℕ} 0 1 = cc in absurd (omega arith))
 
-pub refused_unsound : (v : View) (n : ℕ) → (figures_reply v).answer ≡ Err n → sound v ≡ false
+pub refused_unsound : (v : View) (n : Refusal) → (figures_reply v).answer ≡ Err n → sound v ≡ false
 refused_unsound v n e = by_bool (sound v) (λ q. let z : (Ok tt) ≡ Err n = rw q at e in let w : ◌≡◌ {A = ℕ} 0 1 = cc in absurd (omega arith)) (λ q. q)
 
 -- Lines that agree at each place are the same text.

@@ -11,9 +11,7 @@ use Rattle.figures.specs.Figures.{unit_figures, aquifer_figures}
 use Rattle.basin.specs.Sound.{sound}
 use Rattle.book.specs.declared.Opened.{Opened}
 use Rattle.book.specs.Reading.{opened}
-use Rattle.record.specs.declared.Ending.{Ending}
-use Rattle.record.specs.declared.Ending.TheVariants.{Finished, Failed}
-use Rattle.record.specs.Calls.{calls_of, ending_of}
+use Rattle.record.specs.Calls.{Ending, failed, calls_of, ending_of}
 use Rattle.register.specs.Calls.{call_reply, after}
 use Rattle.report.specs.Lines.{unit_line, aquifer_line, refused_line, call_given, call_refused, call_cancelled}
 
@@ -54,8 +52,8 @@ call_lines k b (c ∷ cs) =
 
 -- A call record failing with 1 or 2 prints `refused N at P`.
 abbrev pub end_text : Ending → List ℕ
-end_text Finished = []
-end_text (Failed n place) = refused_line n place
+end_text (Ok u) = []
+end_text (Err f) = refused_line n place
 
 -- What follows the call lines: the line of a record that failed, then the table after the calls.
 abbrev pub ran_text : Ending → Balance → List ℕ

@@ -1,5 +1,6 @@
 -- What a book opens and prints by document 01's rain rule and marks. Assumes nothing.
 use Rattle.std.specs.Prelude.{ℕ, zero, suc, ◌+◌, Bool, true, cond, not, ◌&&◌, List, [], eqb, leb, ltb, length}
+use Rattle.model.specs.declared.Refusal.TheVariants.{Short, UnknownMark}
 use Rattle.model.specs.declared.Balance.{Balance}
 use Rattle.runoff.specs.Record.{of_rain, of_gauge}
 use Rattle.record.specs.declared.UnitRecord.{UnitRecord}
@@ -17,7 +18,7 @@ is_pd s at = spells (bits8 s at) (bits8 s (at + 1)) 80 68
 
 -- What stands at an offset. PD is an unknown mark, 2.
 abbrev pub mm_entry_at : List ℕ → ℕ → EntryAt
-mm_entry_at s at = cond (is_pd s at) (failing 2) (entry_at s at)
+mm_entry_at s at = cond (is_pd s at) (failing UnknownMark) (entry_at s at)
 
 -- PR: 3 after AC, before any UN, without SU; 4 a 51st year; 5 rain below 350 or above 2150 mm.
 abbrev pub mm_rain_fault : ℕ → ℕ → UnitRecord → ℕ → ℕ
@@ -43,7 +44,7 @@ abbrev pub mm_balance : Description → Balance
 mm_balance d = balance_by mm_unit d
 
 unfoldable pub mm_reading_from : ℕ → List ℕ → ℕ → Description → Outcome
-mm_reading_from zero s at d = refused 1 at
+mm_reading_from zero s at d = refused Short at
 mm_reading_from (suc records) s at d =
     elim (mm_entry_at s at) [
       | no_entry ↦ ended_by (mm_balance d) d at

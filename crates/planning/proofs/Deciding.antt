@@ -15,12 +15,13 @@ use Rattle.planning.specs.Names.{place_limit}
 use Rattle.planning.specs.State.{sound_state}
 use Rattle.planning.specs.Calls.{place_in, keep_reply, back_reply}
 use Rattle.planning.specs.Decision.{keep_decision, back_decision, keep_as, back_as}
+use Rattle.model.specs.declared.Refusal.TheVariants.{FifthName, NoSuchName}
 use Rattle.planning.proofs.Replying.{standing, keep_by, back_by, place_within}
 
 pub keep_found : (test : Bool) (f : Option ℕ) (n k : ℕ) → test ≡ true → f ≡ Some k → Again k ≡ keep_decision test f n
 keep_found test f n k e p = rw (p, e)
 
-pub keep_full : (test : Bool) (f : Option ℕ) (n : ℕ) → test ≡ true → f ≡ None → place_limit ≤ n → NotKept 22 ≡ keep_decision test f n
+pub keep_full : (test : Bool) (f : Option ℕ) (n : ℕ) → test ≡ true → f ≡ None → place_limit ≤ n → NotKept FifthName ≡ keep_decision test f n
 keep_full test f n e p h = rw (p, e, le-leb place_limit n h)
 
 pub keep_free : (test : Bool) (f : Option ℕ) (n : ℕ) → test ≡ true → f ≡ None → n < place_limit → Anew ≡ keep_decision test f n
@@ -29,7 +30,7 @@ keep_free test f n e p h = rw (p, e, lt-leb place_limit n h)
 pub back_found : (test : Bool) (f : Option ℕ) (k : ℕ) → test ≡ true → f ≡ Some k → To k ≡ back_decision test f
 back_found test f k e p = rw (p, e)
 
-pub back_missing : (test : Bool) (f : Option ℕ) → test ≡ true → f ≡ None → NoReturn 23 ≡ back_decision test f
+pub back_missing : (test : Bool) (f : Option ℕ) → test ≡ true → f ≡ None → NoReturn NoSuchName ≡ back_decision test f
 back_missing test f e p = rw (p, e)
 
 -- The replies are those of the decisions.
@@ -58,7 +59,7 @@ again_of true (Some j) n k e = (refl, cc)
 again_of false (Some j) n k e = cc
 again_of true None n k e =
     by_bool (leb place_limit n)
-    (λ q. let z : NotKept 22 ≡ Again k = rw q at e in cc)
+    (λ q. let z : NotKept FifthName ≡ Again k = rw q at e in cc)
     (λ q. let z : Anew ≡ Again k = rw q at e in cc)
 again_of false None n k e = cc
 
@@ -67,7 +68,7 @@ anew_of true (Some j) n e = cc
 anew_of false (Some j) n e = cc
 anew_of true None n e =
     by_bool (leb place_limit n)
-    (λ q. let z : NotKept 22 ≡ Anew = rw q at e in cc)
+    (λ q. let z : NotKept FifthName ≡ Anew = rw q at e in cc)
     (λ q. leb-false _ _ q)
 anew_of false None n e = cc
 

@@ -11,6 +11,7 @@ use native.Mathlib.Omega.{arith}
 use Rattle.laws.specs.Sum.{every}
 use Rattle.laws.proofs.Cases.{by_bool, by_eq, by_lt}
 use Rattle.laws.proofs.Every.{every_each, each_every}
+use Rattle.model.specs.declared.Refusal.{Refusal}
 use Rattle.model.specs.declared.Balance.{Balance}
 use Rattle.model.specs.Answers.{Answer}
 use Rattle.model.specs.View.{view_of}
@@ -140,7 +141,7 @@ replied_exactly : (r : Answer) (old new : State) → ((replied r old new).answer
 replied_exactly (Ok u) old new = (λ e. refl, λ e. refl)
 replied_exactly (Err k) old new = (λ e. cc, λ e. cc)
 
-replied_refused : (r : Answer) (old new : State) (k : ℕ) → (replied r old new).answer ≡ Err k → (replied r old new).state ≡ old
+replied_refused : (r : Answer) (old new : State) (k : Refusal) → (replied r old new).answer ≡ Err k → (replied r old new).state ≡ old
 replied_refused (Ok u) old new k e = cc
 replied_refused (Err m) old new k e = refl
 
@@ -152,8 +153,8 @@ pub back_accepted_exactly : (s : State) (n : Name) → ((back_reply s n).answer 
 back_accepted_exactly s n = replied_exactly (back_refusal s n) s (going_back s n)
 
 -- A refused one hands back the very state that was handed in.
-pub keep_refused_lem : (s : State) (n : Name) (k : ℕ) → (keep_reply s n).answer ≡ Err k → (keep_reply s n).state ≡ s
+pub keep_refused_lem : (s : State) (n : Name) (k : Refusal) → (keep_reply s n).answer ≡ Err k → (keep_reply s n).state ≡ s
 keep_refused_lem s n k e = replied_refused (keep_refusal s n) s (keeping s n) k e
 
-pub back_refused_lem : (s : State) (n : Name) (k : ℕ) → (back_reply s n).answer ≡ Err k → (back_reply s n).state ≡ s
+pub back_refused_lem : (s : State) (n : Name) (k : Refusal) → (back_reply s n).answer ≡ Err k → (back_reply s n).state ≡ s
 back_refused_lem s n k e = replied_refused (back_refusal s n) s (going_back s n) k e

@@ -9,17 +9,18 @@ use Rattle.planning.specs.declared.Returning.{Returning}
 use Rattle.planning.specs.declared.Returning.TheVariants.{Refused as NoReturn, To}
 use Rattle.planning.specs.Names.{place_limit}
 use Rattle.planning.specs.State.{name_at, balance_at}
+use Rattle.model.specs.declared.Refusal.TheVariants.{Unsound, FifthName, NoSuchName}
 use Rattle.planning.specs.Calls.{with_current, with_kept, kept_under, replied}
 
 -- Keeping: 0, then under a used name in its place, then 22 a fifth name, then in the next place.
 abbrev pub keep_decision : Bool → Option ℕ → ℕ → Keeping
-keep_decision sound (Some k) count = cond sound (Again k) (NotKept 0)
-keep_decision sound None count = cond sound (cond (leb place_limit count) (NotKept 22) Anew) (NotKept 0)
+keep_decision sound (Some k) count = cond sound (Again k) (NotKept Unsound)
+keep_decision sound None count = cond sound (cond (leb place_limit count) (NotKept FifthName) Anew) (NotKept Unsound)
 
 -- Going back: 0, then 23 no such name, then to its place.
 abbrev pub back_decision : Bool → Option ℕ → Returning
-back_decision sound (Some k) = cond sound (To k) (NoReturn 0)
-back_decision sound None = cond sound (NoReturn 23) (NoReturn 0)
+back_decision sound (Some k) = cond sound (To k) (NoReturn Unsound)
+back_decision sound None = cond sound (NoReturn NoSuchName) (NoReturn Unsound)
 
 -- The replies by these.
 abbrev pub keep_as : State → Name → Keeping → Reply

@@ -10,6 +10,7 @@ use Rattle.text.specs.Text.{Written}
 use Rattle.text.proofs.Writing.{then, widen, still}
 use Rattle.report.specs.Lines.{refused_line}
 use Rattle.replay.specs.declared.Replayed.{Replayed}
+use Rattle.model.specs.declared.Refusal.{Refusal}
 use Rattle.replay.specs.Page.{Page, reply_text, reply_to, record_reply, joined, onward, page_of, Replied, replayed_so}
 
 -- The records before, by the text of their replies and their number, and then a page.
@@ -26,7 +27,7 @@ module _ (m k : ℕ) (st : State) (s : List ℕ) (at : ℕ) where
   pub page_ends : request_at s at ≡ ends → page_of (suc m) k st s at ≡ reply_to ends k st at
   page_ends e = page_by ends e
 
-  pub page_fails : (n : ℕ) → request_at s at ≡ fails n → page_of (suc m) k st s at ≡ reply_to (fails n) k st at
+  pub page_fails : (n : Refusal) → request_at s at ≡ fails n → page_of (suc m) k st s at ≡ reply_to (fails n) k st at
   page_fails n e = page_by (fails n) e
 
   pub page_asks : (r : Request) (to : ℕ) → request_at s at ≡ asks r to
@@ -112,7 +113,7 @@ module _ (s : List ℕ) (from first most : ℕ) (start : State) {old : List ℕ}
       ∙ left h
 
   -- The record here fails.
-  pub going_fails : i < most → (n : ℕ) → request_at s at ≡ fails n
+  pub going_fails : i < most → (n : Refusal) → request_at s at ≡ fails n
       → record { text = g.text ++ refused_line n at; state = cur; next = at; count = i; more = false } ≡ page_of most first start s from
   going_fails h n e =
       let c : i ≡ i + 0 = omega arith in

@@ -16,6 +16,7 @@ use Rattle.requests.specs.declared.OwnMark.{OwnMark}
 use Rattle.requests.specs.declared.OwnMark.TheVariants.{None}
 use Rattle.requests.specs.declared.RecordAt.{RecordAt}
 use Rattle.requests.specs.declared.RecordAt.TheVariants.{Fails}
+use Rattle.model.specs.declared.Refusal.TheVariants.{Short}
 use Rattle.requests.specs.Records.{own_mark, own_at, name_at, own_marked, own_record, whole_record, besides, record_at}
 
 -- Bytes that were copied from an offset on stand there, and eight of them are the name.
@@ -40,7 +41,7 @@ own_some s at h = rw (le-ltb (length s - at) 2 h)
 pub own_by : (s : List ℕ) (at n : ℕ) (m : OwnMark) (r : RecordAt) → own_at s at ≡ m → r ≡ own_marked m s at n → r ≡ own_record s at n
 own_by s at n m r e q = q ∙ ap (λ (x : OwnMark). own_marked x s at n) (sym e)
 
-pub short_record : (s : List ℕ) (at size : ℕ) (go : ℕ → RecordAt) → length s - at < size → Fails 1 ≡ whole_record s at size go
+pub short_record : (s : List ℕ) (at size : ℕ) (go : ℕ → RecordAt) → length s - at < size → Fails Short ≡ whole_record s at size go
 short_record s at size go h = rw (lt-ltb (length s - at) size h)
 
 pub whole_record_lem : (s : List ℕ) (at size : ℕ) (go : ℕ → RecordAt) → size ≤ length s - at → go (at + size) ≡ whole_record s at size go

@@ -11,6 +11,7 @@ use Rattle.planning.specs.Names.{name_length}
 use Rattle.requests.specs.declared.OwnMark.{OwnMark}
 use Rattle.requests.specs.declared.OwnMark.TheVariants.{Kp, Gb, None}
 use Rattle.requests.specs.declared.RecordAt.{RecordAt}
+use Rattle.model.specs.declared.Refusal.TheVariants.{Short}
 use Rattle.requests.specs.declared.RecordAt.TheVariants.{End, Fails, Calls, Keeps, Returns}
 
 -- The marks of a journal alone, in ASCII: KP, GB.
@@ -27,7 +28,7 @@ name_at s at = record { bytes = take name_length (drop at s) }
 
 -- 1 fewer bytes left than the record's mark and body.
 abbrev pub whole_record : List ℕ → ℕ → ℕ → (ℕ → RecordAt) → RecordAt
-whole_record s at size go = cond (ltb (length s - at) size) (Fails 1) (go (at + size))
+whole_record s at size go = cond (ltb (length s - at) size) (Fails Short) (go (at + size))
 
 -- KP and GB have ten bytes. Any other record fails as the calls of a book say.
 abbrev pub own_marked : OwnMark → List ℕ → ℕ → ℕ → RecordAt

@@ -14,6 +14,7 @@ use borrow.Author.Tests.{lt-ltb, le-ltb, eq-eqb, ne_eqb, eqb-true}
 use Rattle.laws.specs.Signed.{signed32}
 use Rattle.laws.proofs.Cases.{by_bool, by_lt, by_eq}
 use Rattle.laws.proofs.Every.{both}
+use Rattle.model.specs.declared.Refusal.TheVariants.{Short, UnknownMark, BadDownstream, NegativeFlow}
 use Rattle.model.specs.declared.Aquifer.{Aquifer}
 use Rattle.river.specs.Wells.{recharge}
 use Rattle.runoff.specs.declared.Measure.{Measure}
@@ -129,7 +130,7 @@ fault_other n None rest o r = r
 ended_other : (d : Description) (at : ℕ) → OtherOutcome (ended d at)
 ended_other d at =
     chosen OtherOutcome (eqb (closing_fault (length d.units) (last_sums d)) 0) _ (refused _ (last_unit d).at)
-    (fault_other 8 (missing d) _ (λ e. omega arith) (fault_other 10 (negative (balance_of d) d) (read d at) (λ e. omega arith) tt))
+    (fault_other BadDownstream (missing d) _ (λ e. omega arith) (fault_other NegativeFlow (negative (balance_of d) d) (read d at) (λ e. omega arith) tt))
     (closing_other (length d.units) (last_sums d))
 
 module _ (s : List ℕ) (at : ℕ) where
@@ -139,7 +140,7 @@ module _ (s : List ℕ) (at : ℕ) where
   entry_end h = rw (eq-eqb (length s - at) 0 (omega arith))
 
   -- A lone last byte is 1.
-  entry_lone : length s ≡ at + 1 → entry_at s at ≡ failing 1
+  entry_lone : length s ≡ at + 1 → entry_at s at ≡ failing Short
   unfolding entry_at
   entry_lone h = rw (ne_eqb (length s - at) 0 (λ e. omega arith), eq-eqb (length s - at) 1 (omega arith))
 
@@ -220,7 +221,7 @@ module _ (s t : List ℕ) (P : ℕ) (same : (i : ℕ) → i < P → get_or t i 0
     same_whole size x y big eq q =
         by_lt (length s - at) size
         (λ l.
-        let w : failing 1 ≡ stands e to = rw (lt-ltb (length s - at) size l) at q in
+        let w : failing Short ≡ stands e to = rw (lt-ltb (length s - at) size l) at q in
         let z : ◌≡◌ {A = ℕ} 0 1 = cc in
         absurd (omega arith))
         (λ l.
@@ -288,24 +289,24 @@ ends_later s P at d e to q v r =
         reads_clear g t at d e to w v ∙ r.ends t c g (omega (arith, o.onward, o.within))
 
 -- A reading that is refused with 2 reaches the place of the refusal.
-reaches : (f : ℕ) (s : List ℕ) (P at : ℕ) (d : Description) → reading_from f s at d ≡ refused 2 P → Reaches s P at d
+reaches : (f : ℕ) (s : List ℕ) (P at : ℕ) (d : Description) → reading_from f s at d ≡ refused UnknownMark P → Reaches s P at d
 unfolding reading_from
 reaches zero s P at d h = let z : ◌≡◌ {A = ℕ} 1 2 = cc in absurd (omega arith)
 reaches (suc f) s P at d h =
     by_record s at d
     (λ q. absurd (subst OtherOutcome (sym (reads_end f s at d q) ∙ h) (ended_other d at) refl))
     (λ n q.
-    let w : refused n at ≡ refused 2 P = sym (reads_failing f s at d n q) ∙ h in
+    let w : refused n at ≡ refused UnknownMark P = sym (reads_failing f s at d n q) ∙ h in
     let p : at ≡ P = cc in
     subst (λ (x : ℕ). Reaches s x at d) p (ends_here s at d))
     (λ e to n p q v.
-    let w : refused n p ≡ refused 2 P = sym (reads_faulty f s at d e to n p q v) ∙ h in
+    let w : refused n p ≡ refused UnknownMark P = sym (reads_faulty f s at d e to n p q v) ∙ h in
     let two : n ≡ 2 = cc in
     absurd (subst OtherVerdict v (verdict_other d e at) two))
     (λ e to q v. ends_later s P at d e to q v (reaches f s P to (with_entry d e) (sym (reads_clear f s at d e to q v) ∙ h)))
 
 -- Two lists that are cut at one place read alike.
-cut_alike : (s x t : List ℕ) (P : ℕ) → reading s ≡ refused 2 P → Cut s x P → Cut s t P → reading x ≡ reading t
+cut_alike : (s x t : List ℕ) (P : ℕ) → reading s ≡ refused UnknownMark P → Cut s x P → Cut s t P → reading x ≡ reading t
 cut_alike s x t P h c k =
     let r = reaches (length s + 1) s P 0 (record { units = []; aquifers = [] }) h in
     r.ends x c (length x + 1) (omega arith) ∙ sym (r.ends t k (length t + 1) (omega arith))
@@ -362,7 +363,7 @@ abbrev state_of : Outcome → Opened
 state_of o = record { answer = (opened_as o).answer; place = (opened_as o).place; state = nothing_kept (opened_as o).balance }
 
 -- An opening that is refused with 2 comes from a reading that is refused with 2 at its place.
-unknown_refused : (o : Outcome) → unknown (opened_as o).answer ≡ true → o ≡ refused 2 (opened_as o).place
+unknown_refused : (o : Outcome) → unknown (opened_as o).answer ≡ true → o ≡ refused UnknownMark (opened_as o).place
 unknown_refused (read d at) e = let z : ◌≡◌ {A = ℕ} 0 1 = cc in absurd (omega arith)
 unknown_refused (refused n p) e = ap (λ (m : ℕ). refused m p) (eqb-true n 2 e)
 
@@ -372,7 +373,7 @@ pub own_ends_as_call : (s : List ℕ) → ends_there s (opened_state s).answer (
     → journal_opened s ≡ opened_state (take (opened_state s).place s ++ a ∷ b ∷ rest)
 own_ends_as_call s e a b rest c =
     let P = (opened_state s).place in
-    let h : reading s ≡ refused 2 P = unknown_refused (reading s) (both (unknown (opened_state s).answer) (is_own (own_at s P)) e).0 in
+    let h : reading s ≡ refused UnknownMark P = unknown_refused (reading s) (both (unknown (opened_state s).answer) (is_own (own_at s P)) e).0 in
     let l : P ≤ length s = by_lt (length s) P (λ g. absurd (past_end s (opened_state s).answer P g e)) (λ g. g) in
     ap (λ (t : Bool). cond t (opened_state (take P s)) (opened_state s)) e
     ∙ ap state_of (cut_alike s (take P s) (take P s ++ a ∷ b ∷ rest) P h (cut_alone s P l) (cut_called s P l a b rest c))

@@ -7,6 +7,7 @@ use mathlib.Core.List.{List, [], ◌++◌, append-nil}
 use lib.ListN.{length, take}
 use borrow.Author.Tests.{lt-ltb, le-ltb}
 use Rattle.laws.proofs.Cases.{by_bool, by_lt}
+use Rattle.model.specs.declared.Refusal.{Refusal}
 use Rattle.model.specs.declared.Refusal.TheVariants.{TooLong}
 use Rattle.model.specs.Answers.{Answer}
 use Rattle.model.specs.declared.Balance.{Balance}
@@ -28,7 +29,7 @@ unfolding lines_of
 fresh_table = by_bool (sound (view_of fresh_balance)) (λ e. rw e refl) (λ e. rw e refl)
 
 -- A refused opening leaves the fresh balance.
-journal_fresh : (s : List ℕ) (t : Bool) (n : ℕ) → (cond t (opened_state (take (opened_state s).place s)) (opened_state s)).answer ≡ Err n
+journal_fresh : (s : List ℕ) (t : Bool) (n : Refusal) → (cond t (opened_state (take (opened_state s).place s)) (opened_state s)).answer ≡ Err n
     → (cond t (opened_state (take (opened_state s).place s)) (opened_state s)).state.balance ≡ fresh_balance
 journal_fresh s true n e = (accepted_exactly (take (opened_state s).place s)).fresh n e
 journal_fresh s false n e = (accepted_exactly s).fresh n e
@@ -38,7 +39,7 @@ abbrev pub whole : List ℕ → Page → Page
 whole s p = onward p (page_of (length s + 1) 1 p.state s p.next)
 
 -- What is printed by an answer is what its beginning, the pages and the table give.
-whole_by : (s : List ℕ) (a : Answer) (place : ℕ) (st : State) → ((n : ℕ) → a ≡ Err n → st.balance ≡ fresh_balance)
+whole_by : (s : List ℕ) (a : Answer) (place : ℕ) (st : State) → ((n : Refusal) → a ≡ Err n → st.balance ≡ fresh_balance)
     → opened_text s a place st ≡ replies_text (whole s (begun_by a place st))
 whole_by s (Ok u) place st f = refl
 whole_by s (Err n) place st f =
