@@ -5,6 +5,7 @@ use Rattle.std.proofs.Common.{sym, ap, ◌∙◌}
 use Rattle.laws.specs.Sum.{sum_of}
 use Rattle.laws.specs.Gather.{gather, gather_to}
 use Rattle.laws.specs.Table.{table, tabulate}
+use Rattle.model.specs.declared.Refusal.{Refusal}
 use Rattle.model.specs.declared.Refusal.TheVariants.{ReceiverBelow, NoWater, FlowNeeded}
 use Rattle.model.specs.declared.Title.TheVariants.{UnitWithdrawal, AquiferWithdrawal, UnitTransfer, AquiferTransfer, ReturningWithdrawal}
 use Rattle.model.specs.declared.Call.TheVariants.{Grant, Cancel}
@@ -233,7 +234,7 @@ unfolding first_balance
 figures_after = figures_are (view_of first_balance) first_sound refl refl ∙ table_after_lem
 
 -- A refused call.
-abbrev refused_reply : ℕ → Balance → Reply
+abbrev refused_reply : Refusal → Balance → Reply
 refused_reply n b = record { answer = Err n; number = 0; balance = b }
 
 returns_left : ((view_of cancelled_balance).unit 2).returns ≡ 1
