@@ -8,8 +8,6 @@ use lib.Dec.{ltb}
 use lib.Signed.{non_neg}
 use lib.ListN.{length, get_or}
 use native.Mathlib.Omega.{arith}
-use borrow.Author.Tests.{eq-eqb, ne_eqb}
-use Rattle.laws.proofs.Cases.{by_eq}
 use Rattle.laws.proofs.Arrays.{get_or_table}
 use Rattle.model.specs.declared.Refusal.{Refusal}
 use Rattle.model.specs.declared.Refusal.TheVariants.{BadDownstream, NegativeFlow}

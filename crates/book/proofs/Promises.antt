@@ -9,8 +9,7 @@ use lib.ListN.{length, get_or}
 use lib.Dec.{ltb}
 use lib.Signed.{non_neg}
 use native.Mathlib.Omega.{arith}
-use borrow.Author.Tests.{eq-eqb, ne_eqb, ltb-false, not-false}
-use Rattle.laws.proofs.Cases.{by_eq}
+use borrow.Author.Tests.{ltb-false, not-false}
 use Rattle.laws.proofs.Parts.{parts_non_neg}
 use Rattle.laws.proofs.Signs.{below_pos}
 use Rattle.model.specs.declared.Refusal.{Refusal}

@@ -1,5 +1,5 @@
 -- Reading a description, record by record, and opening it (document 01, "What each operation refuses"; document 02 [1]). Assumes nothing.
-use Rattle.std.specs.Prelude.{ℕ, zero, suc, ◌+◌, ◌-◌, cond, not, List, [], ◌∷◌, ◌++◌, eqb, ltb, length, get_or, set, replicate, Option, Some, None, Ok, Err}
+use Rattle.std.specs.Prelude.{ℕ, zero, suc, ◌+◌, ◌-◌, not, List, [], ◌∷◌, ◌++◌, ltb, length, get_or, set, replicate, Option, Some, None, Ok, Err}
 use Rattle.std.specs.Int.Signed.{non_neg}
 use Rattle.laws.specs.Table.{table}
 use Rattle.model.specs.declared.Refusal.{Refusal}

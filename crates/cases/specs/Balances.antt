@@ -1,6 +1,6 @@
 -- The balances that the printed book goes through, written out: the one that it opens and those that its calls leave. Assumes nothing.
 use Rattle.std.specs.Prelude.{ℕ, ◌≡◌, refl, true, false, List, [], ◌∷◌, replicate, negsuc, Ok, Err}
-use Rattle.std.proofs.Common.{sym, ap, subst, ◌∙◌, arith}
+use Rattle.std.proofs.Common.{sym, ap, subst, ◌∙◌}
 use Rattle.laws.specs.Sum.{sum_of, every}
 use Rattle.laws.specs.Gather.{gather, gather_to}
 use Rattle.laws.specs.Table.{table, tabulate, indexed}

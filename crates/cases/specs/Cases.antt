@@ -6,7 +6,7 @@ use Rattle.laws.specs.Sum.{sum_of}
 use Rattle.laws.specs.Gather.{gather, gather_to}
 use Rattle.laws.specs.Table.{table, tabulate}
 use Rattle.model.specs.declared.Refusal.{Refusal}
-use Rattle.model.specs.declared.Refusal.TheVariants.{ReceiverBelow, NoWater, FlowNeeded}
+use Rattle.model.specs.declared.Refusal.TheVariants.{ReceiverBelow}
 use Rattle.model.specs.declared.Title.TheVariants.{UnitWithdrawal, AquiferWithdrawal, UnitTransfer, AquiferTransfer, ReturningWithdrawal}
 use Rattle.model.specs.declared.Call.TheVariants.{Grant, Cancel}
 use Rattle.model.specs.declared.Balance.{Balance}

@@ -11,7 +11,7 @@ use Rattle.figures.specs.Figures.{unit_figures, aquifer_figures}
 use Rattle.basin.specs.Sound.{sound}
 use Rattle.book.specs.declared.Opened.{Opened}
 use Rattle.book.specs.Reading.{opened}
-use Rattle.record.specs.Calls.{Ending, failed, calls_of, ending_of}
+use Rattle.record.specs.Calls.{Ending, calls_of, ending_of}
 use Rattle.register.specs.Calls.{call_reply, after}
 use Rattle.report.specs.Lines.{unit_line, aquifer_line, refused_line, call_given, call_refused, call_cancelled}
 

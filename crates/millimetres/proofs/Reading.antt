@@ -1,5 +1,5 @@
 -- A book without a PD is read alike by both rules, record by record. Assumes nothing.
-use Rattle.std.specs.Prelude.{Ok}
+use Rattle.std.specs.Prelude.{Option, Some, None, Ok}
 use Prim.Native.Nat.{ℕ, zero, suc, ◌+◌, ◌-◌, ◌<◌}
 use mathlib.Core.Path.{◌≡◌, refl, sym, ap, subst, subst⁻¹, ◌∙◌}
 use mathlib.Core.Bool.{Bool, true, false, cond, not, ◌||◌}
@@ -12,15 +12,18 @@ use borrow.Author.Tests.{lt-ltb, le-ltb, eq-eqb, ne_eqb}
 use Rattle.laws.proofs.Cases.{by_lt, by_eq}
 use Rattle.laws.proofs.Every.{both}
 use Rattle.laws.proofs.Arrays.{table_same}
+use Rattle.model.specs.declared.Refusal.{Refusal}
+use Rattle.model.specs.declared.Refusal.TheVariants.{OutOfSequence, TooMany, OutsideValues}
 use Rattle.model.specs.declared.Unit.{Unit as BasinUnit}
 use Rattle.model.specs.declared.Balance.{Balance}
 use Rattle.model.specs.Fresh.{empty_unit}
+use Rattle.model.specs.Answers.{Answer, accepted, refuse}
 use Rattle.runoff.specs.declared.Measure.{Measure}
 use Rattle.runoff.specs.declared.Measure.TheVariants.{Millimetres}
 use Rattle.runoff.specs.Record.{of_rain, of_gauge}
 use Rattle.record.specs.declared.UnitRecord.{UnitRecord}
 use Rattle.record.specs.declared.Mark.{Mark}
-use Rattle.record.specs.declared.Mark.TheVariants.{Un, Su, Pr, Pd, Af, Ac, Call, Unknown}
+use Rattle.record.specs.declared.Mark.TheVariants.{Un, Su, Pr, Pd, Af, Ac, Call}
 use Rattle.record.specs.Bytes.{bits8}
 use Rattle.record.specs.Fault.{rain_fault}
 use Rattle.record.specs.Record.{spells, is_call, mark_of}
@@ -52,29 +55,29 @@ FreeAt no_entry = Unit {0}
 FreeAt (failing n) = Unit {0}
 FreeAt (stands e to) = FreeEntry e
 
-abbrev NotPd : Mark → Type 0
-NotPd Un = Unit {0}
-NotPd Su = Unit {0}
-NotPd Pr = Unit {0}
-NotPd Pd = ⊥
-NotPd Af = Unit {0}
-NotPd Ac = Unit {0}
-NotPd Call = Unit {0}
-NotPd Unknown = Unit {0}
+abbrev NotPd : Option Mark → Type 0
+NotPd (Some Un) = Unit {0}
+NotPd (Some Su) = Unit {0}
+NotPd (Some Pr) = Unit {0}
+NotPd (Some Pd) = ⊥
+NotPd (Some Af) = Unit {0}
+NotPd (Some Ac) = Unit {0}
+NotPd (Some Call) = Unit {0}
+NotPd None = Unit {0}
 
-either : (b : Bool) (x y : Mark) → NotPd x → NotPd y → NotPd (cond b x y)
+either : (b : Bool) (x y : Option Mark) → NotPd x → NotPd y → NotPd (cond b x y)
 either true x y p q = p
 either false x y p q = q
 
 mark_not_pd : (a b : ℕ) → spells a b 80 68 ≡ false → NotPd (mark_of a b)
 mark_not_pd a b h =
     rw h
-    (either (spells a b 80 82) Pr _ tt
-    (either (spells a b 65 70) Af _ tt
-    (either (spells a b 83 85) Su _ tt
-    (either (spells a b 85 78) Un _ tt
-    (either (spells a b 65 67) Ac _ tt
-    (either (is_call a b) Call Unknown tt tt))))))
+    (either (spells a b 80 82) (Some Pr) _ tt
+    (either (spells a b 65 70) (Some Af) _ tt
+    (either (spells a b 83 85) (Some Su) _ tt
+    (either (spells a b 85 78) (Some Un) _ tt
+    (either (spells a b 65 67) (Some Ac) _ tt
+    (either (is_call a b) (Some Call) None tt tt))))))
 
 module _ (s : List ℕ) (at : ℕ) where
   whole_free : (size : ℕ) (e : Entry) → FreeEntry e → FreeAt (whole_entry s at size e)
@@ -83,15 +86,15 @@ module _ (s : List ℕ) (at : ℕ) where
       (λ l. rw (lt-ltb (length s - at) size l) tt)
       (λ l. rw (le-ltb (length s - at) size l) f)
 
-  mark_free : (m : Mark) → NotPd m → FreeAt (entry_marked m s at)
-  mark_free Un n = whole_free 31 _ tt
-  mark_free Su n = whole_free 8 _ tt
-  mark_free Pr n = whole_free 4 _ (refl, tt)
-  mark_free Pd n = absurd n
-  mark_free Af n = whole_free 34 _ tt
-  mark_free Ac n = whole_free 22 _ tt
-  mark_free Call n = tt
-  mark_free Unknown n = tt
+  mark_free : (m : Option Mark) → NotPd m → FreeAt (entry_marked m s at)
+  mark_free (Some Un) n = whole_free 31 _ tt
+  mark_free (Some Su) n = whole_free 8 _ tt
+  mark_free (Some Pr) n = whole_free 4 _ (refl, tt)
+  mark_free (Some Pd) n = absurd n
+  mark_free (Some Af) n = whole_free 34 _ tt
+  mark_free (Some Ac) n = whole_free 22 _ tt
+  mark_free (Some Call) n = tt
+  mark_free None n = tt
 
   free_at : is_pd s at ≡ false → FreeAt (entry_at s at)
   unfolding entry_at
@@ -147,23 +150,23 @@ same_balance d good free =
           given = 0;
         }
 
--- Two tests of one number, together and one after the other.
-either_test : (a b : Bool) (n : ℕ) → cond (a || b) n 0 ≡ cond a n (cond b n 0)
-either_test true b n = refl
-either_test false b n = refl
+-- Two tests of one refusal, together and one after the other.
+either_test : (a b : Bool) (r : Refusal) → refuse r (a || b) accepted ≡ refuse r a (refuse r b accepted)
+either_test true b r = refl
+either_test false b r = refl
 
 -- A PR is refused alike, and so is every record but a PD.
 same_rain : (units aquifers : ℕ) (u : UnitRecord) (m : Measure) (mm : ℕ) → m ≡ Millimetres → rain_fault units aquifers u m mm ≡ mm_rain_fault units aquifers u mm
 same_rain units aquifers u m mm e =
     ap (λ (x : Measure). rain_fault units aquifers u x mm) e
-    ∙ ap (λ (n : ℕ). cond (ltb 0 aquifers) 3 (cond (eqb units 0) 3 (cond (eqb u.soils 0) 3 (cond (leb 50 u.years) 4 n))))
-    (either_test (ltb mm 350) (ltb 2150 mm) 5)
+    ∙ ap (λ (a : Answer). refuse OutOfSequence (ltb 0 aquifers) (refuse OutOfSequence (eqb units 0) (refuse OutOfSequence (eqb u.soils 0) (refuse TooMany (leb 50 u.years) a))))
+    (either_test (ltb mm 350) (ltb 2150 mm) OutsideValues)
 
 same_verdict : (d : Description) (e : Entry) (at : ℕ) → FreeEntry e → mm_verdict d e at ≡ entry_verdict d e at
 same_verdict d (unit_entry u) at f = refl
 same_verdict d (soil_entry p) at f = refl
 same_verdict d (year_entry (of_rain r)) at f =
-    ap (λ (n : ℕ). unless_faulty n at clear)
+    ap (λ (a : Answer). unless_faulty a at clear)
     (sym (same_rain (length d.units) (length d.aquifers) (last_sums d) r.measure r.depth f.0))
 same_verdict d (year_entry (of_gauge y)) at f = refl
 same_verdict d (aquifer_entry a) at f = refl
@@ -174,11 +177,11 @@ module _ (f : ℕ) (s : List ℕ) (at : ℕ) (d : Description) where
   unfolding mm_reading_from
   mm_end h = rw (h, mm_reading_from)
 
-  mm_failing : (n : ℕ) → mm_entry_at s at ≡ failing n → mm_reading_from (suc f) s at d ≡ refused n at
+  mm_failing : (n : Refusal) → mm_entry_at s at ≡ failing n → mm_reading_from (suc f) s at d ≡ refused n at
   unfolding mm_reading_from
   mm_failing n h = rw (h, mm_reading_from)
 
-  mm_faulty : (e : Entry) (to n p : ℕ) → mm_entry_at s at ≡ stands e to → mm_verdict d e at ≡ faulty n p
+  mm_faulty : (e : Entry) (to : ℕ) (n : Refusal) (p : ℕ) → mm_entry_at s at ≡ stands e to → mm_verdict d e at ≡ faulty n p
       → mm_reading_from (suc f) s at d ≡ refused n p
   unfolding mm_reading_from
   mm_faulty e to n p h v = rw (h, v, mm_reading_from)
@@ -215,8 +218,8 @@ reads_alike : (f : ℕ) (s : List ℕ) (at : ℕ) (d : Description) → Good d �
 unfolding reading_from mm_reading_from
 reads_alike zero s at d good free h = record { same = refl; reached = tt }
 reads_alike (suc f) s at d good free h =
-    let (Ok u) = no_pd f s at h in
-    let entry : mm_entry_at s at ≡ entry_at s at = rw (Ok tt) in
+    let none = no_pd f s at h in
+    let entry : mm_entry_at s at ≡ entry_at s at = rw none in
     by_record s at d
     (λ q.
     record {
@@ -230,12 +233,12 @@ reads_alike (suc f) s at d good free h =
     })
     (λ e to n p q v.
     record {
-      same = reads_faulty f s at d e to n p q v ∙ sym (mm_faulty f s at d e to n p (entry ∙ q) (same_verdict d e at (free_entry s at (Ok tt) e to q) ∙ v));
+      same = reads_faulty f s at d e to n p q v ∙ sym (mm_faulty f s at d e to n p (entry ∙ q) (same_verdict d e at (free_entry s at none e to q) ∙ v));
       reached = subst⁻¹ Reached (reads_faulty f s at d e to n p q v) tt;
     })
     (λ e to q v.
     let b = (standing s at e to q).begun in
-    let g = free_entry s at (Ok tt) e to q in
+    let g = free_entry s at none e to q in
     let rest = reads_alike f s to (with_entry d e) (good_entry d good e at v b) (keeps_free d free e b g) (no_pd_after f s at e to h q) in
     record {
       same = reads_clear f s at d e to q v ∙ rest.same ∙ sym (mm_clear f s at d e to (entry ∙ q) (same_verdict d e at g ∙ v));

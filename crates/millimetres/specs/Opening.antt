@@ -1,7 +1,8 @@
 -- What a book opens and prints by document 01's rain rule and marks. Assumes nothing.
 use Rattle.std.specs.Prelude.{ℕ, zero, suc, ◌+◌, Bool, true, cond, not, ◌&&◌, List, [], eqb, leb, ltb, length}
-use Rattle.model.specs.declared.Refusal.TheVariants.{Short, UnknownMark}
+use Rattle.model.specs.declared.Refusal.TheVariants.{Short, UnknownMark, OutOfSequence, TooMany, OutsideValues}
 use Rattle.model.specs.declared.Balance.{Balance}
+use Rattle.model.specs.Answers.{Answer, accepted, refuse}
 use Rattle.runoff.specs.Record.{of_rain, of_gauge}
 use Rattle.record.specs.declared.UnitRecord.{UnitRecord}
 use Rattle.record.specs.Bytes.{bits8}
@@ -21,14 +22,14 @@ abbrev pub mm_entry_at : List ℕ → ℕ → EntryAt
 mm_entry_at s at = cond (is_pd s at) (failing UnknownMark) (entry_at s at)
 
 -- PR: 3 after AC, before any UN, without SU; 4 a 51st year; 5 rain below 350 or above 2150 mm.
-abbrev pub mm_rain_fault : ℕ → ℕ → UnitRecord → ℕ → ℕ
+abbrev pub mm_rain_fault : ℕ → ℕ → UnitRecord → ℕ → Answer
 mm_rain_fault units aquifers u mm =
-    cond (ltb 0 aquifers) 3
-    (cond (eqb units 0) 3
-    (cond (eqb u.soils 0) 3
-    (cond (leb 50 u.years) 4
-    (cond (ltb mm 350) 5
-    (cond (ltb 2150 mm) 5 0)))))
+    refuse OutOfSequence (ltb 0 aquifers)
+    (refuse OutOfSequence (eqb units 0)
+    (refuse OutOfSequence (eqb u.soils 0)
+    (refuse TooMany (leb 50 u.years)
+    (refuse OutsideValues (ltb mm 350)
+    (refuse OutsideValues (ltb 2150 mm) accepted)))))
 
 -- A record is refused as the program refuses it, a PR as above. No refusal of a record looks at what rain years give, 9 being of gauged years.
 abbrev pub mm_verdict : Description → Entry → ℕ → Verdict

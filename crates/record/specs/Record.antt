@@ -1,5 +1,5 @@
 -- The marks of a book and the records of a description (document 01, "The book"; document 02 [1] and [2]). Assumes nothing.
-use Rattle.std.specs.Prelude.{ℕ, ◌+◌, Bool, true, false, cond, ◌&&◌, List, eqb, ℤ, pos, ◌+ℤ◌, Option, Some, None, is_some}
+use Rattle.std.specs.Prelude.{ℕ, ◌+◌, Bool, cond, ◌&&◌, List, eqb, ℤ, pos, ◌+ℤ◌, Option, Some, None, is_some}
 use Rattle.runoff.specs.Soil.{weighted}
 use Rattle.runoff.specs.Year.{gauged_year}
 use Rattle.runoff.specs.Mean.{natural_runoff}

@@ -1,5 +1,5 @@
 -- The steps of a grant. Assumes nothing.
-use Rattle.std.specs.Prelude.{ℕ, Bool, true, false, cond, not, ◌&&◌, List, [], eqb, leb, get_or, Ok, Err}
+use Rattle.std.specs.Prelude.{ℕ, Bool, false, not, ◌&&◌, List, [], eqb, leb, get_or, Ok, Err}
 use Rattle.laws.specs.Sum.{every}
 use Rattle.model.specs.declared.Refusal.TheVariants.{NoSuchPlace, NoSuchUse, BadVolume, NumbersGiven, EntryFull, ReceiverBelow}
 use Rattle.model.specs.declared.Unit.{Unit}

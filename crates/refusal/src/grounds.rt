@@ -88,11 +88,9 @@ fn overfull(
             usage,
             volume,
         } => {
+            let back = titles::returned(usage, volume);
             past(aquifers[usize::from(aquifer) - 1].extraction, volume)
-                || past(
-                    units[usize::from(unit) - 1].returns,
-                    titles::returned(usage, volume),
-                )
+                || past(units[usize::from(unit) - 1].returns, back)
         }
     }
 }

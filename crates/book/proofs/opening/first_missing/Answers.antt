@@ -1,5 +1,5 @@
 -- `book::first_missing` meets its contract. Assumes nothing.
-use Rattle.std.proofs.Common.{sym, ◌≤◌, ◌<◌, arith}
+use Rattle.std.proofs.Common.{sym, ◌<◌, arith}
 use borrow.Author.Count.{below_none, below_more}
 use borrow.Author.Tests.{lt-ltb, le-ltb}
 use Rattle.model.specs.View.{view_of}

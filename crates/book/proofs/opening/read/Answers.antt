@@ -1,7 +1,7 @@
 -- `book::read` meets its contract. Assumes nothing.
-use Rattle.std.proofs.Common.{◌≡◌, ap, sym, ◌∙◌, subst, ◌<◌, ◌-◌, ◌+◌, ℕ, length, Ok, Err, arith, rules}
+use Rattle.std.proofs.Common.{◌≡◌, ap, ◌∙◌, subst, ◌-◌, ◌+◌, length, Ok, Err, arith, rules}
 use Rattle.record.proofs.Clean.{closing_clean}
-use Rattle.book.specs.declared.Next.TheVariants.{Ends, Opens, Grows, Adds}
+use Rattle.book.specs.declared.Next.TheVariants.{Ends, Opens, Adds}
 use Rattle.book.specs.Reading.{last_sums}
 use Rattle.book.specs.Steps.{next}
 use Rattle.book.proofs.Following.{Reached, reached_start, reached_ends, reached_refused, opens_closing, reached_opens, reached_grows, adds_room, reached_adds, reached_over, reached_ready}

@@ -1,6 +1,6 @@
 -- `book::gauge_step` meets its contract. Assumes nothing.
-use Rattle.std.specs.Prelude.{◌≡◌, true, false, Ok}
-use Rattle.std.proofs.Common.{sym, ◌∙◌, rules}
+use Rattle.std.specs.Prelude.{◌≡◌, Ok}
+use Rattle.std.proofs.Common.{rules}
 use Rattle.laws.proofs.Signs.{whole_ok}
 use Rattle.record.specs.Fault.{gauge_outside_at, gauge_fault}
 use Rattle.record.proofs.Faults.{gauge_clean, range_at}

@@ -1,12 +1,11 @@
 -- `book::rain_step` meets its contract. Assumes nothing.
-use Rattle.std.proofs.Common.{◌≡◌, ap, sym, ◌∙◌, ◌+◌, Ok, pos, arith, rules}
+use Rattle.std.proofs.Common.{◌≡◌, ◌+◌, Ok, pos, arith, rules}
 use Rattle.laws.proofs.Signs.{whole_ok}
 use Rattle.runoff.specs.declared.Measure.TheVariants.{Tenths}
-use Rattle.runoff.specs.Year.{RainRange, in_tenths}
+use Rattle.runoff.specs.Year.{RainRange}
 use Rattle.runoff.proofs.RainBounds.{rain_within}
-use Rattle.record.specs.Bytes.{bits16}
 use Rattle.record.specs.Fault.{rain_fault}
-use Rattle.record.proofs.Faults.{fault_in_tenths, rain_clean}
+use Rattle.record.proofs.Faults.{rain_clean}
 use Rattle.book.proofs.step.rain_step.Goals as goal
 use Rattle.book.proofs.step.rain_step.Goals.{After-rain_year-year}
 

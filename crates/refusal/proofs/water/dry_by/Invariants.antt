@@ -1,5 +1,5 @@
 -- `refusal::dry_by` meets its contract. The loop's invariant: none of the first i units drains to the outlet and is in deficit. Assumes nothing.
-use Prim.Native.Nat.{ℕ, ◌≤◌, ◌<◌, ◌-◌}
+use Prim.Native.Nat.{ℕ, ◌<◌}
 use mathlib.Core.Path.{◌≡◌}
 use mathlib.Core.Bool.{false, ◌&&◌}
 use lib.Dec.{eqb}

@@ -1,5 +1,5 @@
 -- `refusal::no_water` meets its contract: by the unit or the aquifer that gives. Assumes nothing.
-use Rattle.std.proofs.Common.{◌≡◌, refl, take, sym, ap, ◌∙◌, ◌<◌, ◌-◌, ℕ, pred, arith}
+use Rattle.std.proofs.Common.{refl, take, sym, ap, ◌∙◌, ◌<◌, ◌-◌, ℕ, arith}
 use native.Mathlib.Numerals.{sub-one}
 use Rattle.model.specs.View.{View}
 use Rattle.river.specs.Flow.{Ready}
