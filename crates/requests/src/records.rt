@@ -38,13 +38,9 @@ pub fn name_at(s: &[u8], at: usize) -> Name
     requires { at + 8 ≤ length s.now }
     ensures { result ≡ records.name_at s.now at }
 {
-    let mut name = Name::empty();
-    let mut k = 0;
-    while k < Name::BYTES {
-        name.bytes[k] = s[at + k];
-        k += 1;
+    Name {
+        bytes: s[at..at + Name::BYTES].try_into().unwrap(),
     }
-    name
 }
 
 // A record that is no call of the register, which alone would fail with a number: a keeping, a return, or that failure.
