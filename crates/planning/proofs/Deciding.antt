@@ -1,15 +1,14 @@
 -- What is decided on keeping and going back, by the tests that are made; and the replies by what was decided. Assumes nothing.
-use Rattle.std.specs.Prelude.{Option, Some, None, Result, Ok, Err}
+use Rattle.std.specs.Prelude.{Option, Some, None, Ok, Err}
 use Rattle.std.specs.Option.{ok_or}
-use Prim.Native.Nat.{ℕ, ◌≤◌, ◌<◌}
+use Prim.Native.Nat.{ℕ, ◌<◌}
 use mathlib.Core.Path.{◌≡◌, refl, ap}
 use mathlib.Core.Bool.{Bool, true, false}
 use lib.Dec.{leb}
 use native.Mathlib.Omega.{arith}
-use borrow.Author.Tests.{le-leb, lt-leb, leb-false}
+use borrow.Author.Tests.{leb-false}
 use Rattle.laws.proofs.Cases.{by_bool}
-use Rattle.model.specs.declared.Refusal.{Refusal}
-use Rattle.model.specs.declared.Refusal.TheVariants.{Unsound, FifthName, NoSuchName}
+use Rattle.model.specs.declared.Refusal.TheVariants.{FifthName, NoSuchName}
 use Rattle.planning.specs.declared.Name.{Name}
 use Rattle.planning.specs.declared.State.{State}
 use Rattle.planning.specs.Names.{place_limit}
@@ -18,36 +17,11 @@ use Rattle.planning.specs.Calls.{place_in, keep_reply, back_reply}
 use Rattle.planning.specs.Decision.{sought, keep_decision, back_decision, keep_as, back_as}
 use Rattle.planning.proofs.Replying.{standing, keep_by, back_by, place_within}
 
--- The decisions, by what the search gave.
-pub keep_found : (test : Bool) (f : Option ℕ) (n k : ℕ) → Ok (Some k) ≡ sought test f → Ok (Some k) ≡ keep_decision test f n
-keep_found true (Some j) n k e = e
-keep_found true None n k e = cc
-keep_found false f n k e = cc
-
-pub keep_full : (test : Bool) (f : Option ℕ) (n : ℕ) → Ok None ≡ sought test f → place_limit ≤ n → Err FifthName ≡ keep_decision test f n
-keep_full true (Some j) n e h = cc
-keep_full true None n e h = rw (le-leb place_limit n h)
-keep_full false f n e h = cc
-
-pub keep_free : (test : Bool) (f : Option ℕ) (n : ℕ) → Ok None ≡ sought test f → n < place_limit → Ok None ≡ keep_decision test f n
-keep_free true (Some j) n e h = cc
-keep_free true None n e h = rw (lt-leb place_limit n h)
-keep_free false f n e h = cc
-
-pub keep_refused : (test : Bool) (f : Option ℕ) (n : ℕ) (r : Refusal) → Err r ≡ sought test f → Err r ≡ keep_decision test f n
-keep_refused true f n r e = cc
-keep_refused false (Some j) n r e = e
-keep_refused false None n r e = e
-
+-- Going back, by what the search gave.
 pub back_place : (test : Bool) (f g : Option ℕ) → Ok g ≡ sought test f → ok_or g NoSuchName ≡ back_decision test f
 back_place true (Some j) g e = let p : g ≡ Some j = cc in ap (λ (x : Option ℕ). ok_or x NoSuchName) p
 back_place true None g e = let p : g ≡ None = cc in ap (λ (x : Option ℕ). ok_or x NoSuchName) p
 back_place false f g e = cc
-
-pub back_refused : (test : Bool) (f : Option ℕ) (r : Refusal) → Err r ≡ sought test f → Err r ≡ back_decision test f
-back_refused true f r e = cc
-back_refused false (Some j) r e = let p : r ≡ Unsound = cc in ap Err p
-back_refused false None r e = let p : r ≡ Unsound = cc in ap Err p
 
 -- The replies are those of the decisions.
 keep_as_decided : (s : State) (n : Name) (test : Bool) (f : Option ℕ) (count : ℕ)

@@ -1,7 +1,6 @@
 -- `planning::sought` meets its contract. Assumes nothing.
-use mathlib.Core.Path.{sym, ap, ◌∙◌}
+use mathlib.Core.Path.{◌∙◌}
 use native.Mathlib.Omega.{arith}
-use Rattle.std.specs.Prelude.{Ok}
 use Rattle.planning.proofs.Places.{place_taken}
 use Rattle.planning.proofs.decision.sought.Goals as goal
 
