@@ -1,4 +1,5 @@
 -- A call's record leaves its own offset behind and stays within the book, so the allowance of records never runs out. Assumes nothing.
+use Rattle.std.specs.Prelude.{Option, Some, None}
 use Prim.Native.Nat.{ℕ, zero, suc, ◌+◌, ◌-◌, ◌≤◌, ◌<◌}
 use mathlib.Core.Path.{◌≡◌, refl, ap, subst}
 use mathlib.Core.List.{List, ◌∷◌}
@@ -8,7 +9,7 @@ use borrow.Author.Tests.{eq-eqb, ne_eqb, lt-ltb, le-ltb}
 use Rattle.laws.proofs.Cases.{by_eq, by_lt}
 use Rattle.model.specs.declared.Call.{Call}
 use Rattle.record.specs.declared.CallMark.{CallMark}
-use Rattle.record.specs.declared.CallMark.TheVariants.{Gu, Ga, Tu, Ta, Gw, Ca, None}
+use Rattle.record.specs.declared.CallMark.TheVariants.{Gu, Ga, Tu, Ta, Gw, Ca}
 use Rattle.record.specs.declared.CallAt.{CallAt}
 use Rattle.record.specs.declared.CallAt.TheVariants.{End, Fails, Asks}
 use Rattle.record.specs.Bytes.{bits8}
@@ -26,13 +27,13 @@ whole_onward s at size c h =
     (λ g. rw (lt-ltb (length s - at) size g) tt)
     (λ g. rw (le-ltb (length s - at) size g) (omega arith, omega arith))
 
-mark_onward : (s : List ℕ) (at : ℕ) (m : CallMark) → Onward s at (call_marked m s at)
-mark_onward s at Gu = whole_onward s at 8 _ (omega arith)
-mark_onward s at Ga = whole_onward s at 7 _ (omega arith)
-mark_onward s at Tu = whole_onward s at 8 _ (omega arith)
-mark_onward s at Ta = whole_onward s at 8 _ (omega arith)
-mark_onward s at Gw = whole_onward s at 9 _ (omega arith)
-mark_onward s at Ca = whole_onward s at 4 _ (omega arith)
+mark_onward : (s : List ℕ) (at : ℕ) (m : Option CallMark) → Onward s at (call_marked m s at)
+mark_onward s at (Some Gu) = whole_onward s at 8 _ (omega arith)
+mark_onward s at (Some Ga) = whole_onward s at 7 _ (omega arith)
+mark_onward s at (Some Tu) = whole_onward s at 8 _ (omega arith)
+mark_onward s at (Some Ta) = whole_onward s at 8 _ (omega arith)
+mark_onward s at (Some Gw) = whole_onward s at 9 _ (omega arith)
+mark_onward s at (Some Ca) = whole_onward s at 4 _ (omega arith)
 mark_onward s at None = tt
 
 at_onward : (s : List ℕ) (at : ℕ) → Onward s at (call_at s at)

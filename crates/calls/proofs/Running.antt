@@ -47,7 +47,7 @@ module _ (s : List ℕ) (all : Ran) where
   turn_ends zero at b h e q = absurd (omega arith)
   turn_ends (suc left) at b h e q = sym (rest_ends left s at b q) ∙ e
 
-  pub turn_fails : (left at : ℕ) (b : Balance) (n : ℕ) → 0 < left → rest left s at b ≡ all → call_at s at ≡ Fails n → ended (failed n at) b ≡ all
+  pub turn_fails : (left at : ℕ) (b : Balance) (n : Refusal) → 0 < left → rest left s at b ≡ all → call_at s at ≡ Fails n → ended (failed n at) b ≡ all
   turn_fails zero at b n h e q = absurd (omega arith)
   turn_fails (suc left) at b n h e q = sym (rest_fails left s at b n q) ∙ e
 
@@ -58,7 +58,7 @@ module _ (s : List ℕ) (all : Ran) where
       ap (λ (n : ℕ). rest n s to (call_reply b c).balance) (sub-one (suc left)) ∙ sym (rest_asks left s at b c to q) ∙ e
 
   -- A refused call leaves the balance as it is.
-  pub turn_refused : (left at : ℕ) (b : Balance) (c : Call) (to k : ℕ) → 0 < left → rest left s at b ≡ all → call_at s at ≡ Asks c to
+  pub turn_refused : (left at : ℕ) (b : Balance) (c : Call) (to : ℕ) (k : Refusal) → 0 < left → rest left s at b ≡ all → call_at s at ≡ Asks c to
       → (call_reply b c).answer ≡ Err k → rest (left - 1) s to b ≡ all
   turn_refused left at b c to k h e q a =
       ap (λ (x : Balance). rest (left - 1) s to x) (sym (refused_keeps b c k a).0) ∙ turn_asks left at b c to h e q

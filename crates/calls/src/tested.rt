@@ -33,10 +33,10 @@ pub fn run_tested(s: &[u8], from: usize, balance: Balance, sound: bool) -> Ran
                 };
             }
             CallAt::Asks { call, to } => {
-                let answer = register::decision::decide(b, sound, call);
                 at = to;
-                if answer.is_ok() {
-                    b = register::outcome::perform(b, call);
+                match register::decision::decide(b, sound, call) {
+                    Ok(()) => b = register::outcome::perform(b, call),
+                    Err(_) => {}
                 }
             }
         }

@@ -145,7 +145,7 @@ ending_is = refl
 -- A transfer from unit 1 to unit 3, which lies below it, is refused.
 pub downstream_reply : grant_reply printed_balance (UnitTransfer 1 3 100) ≡ record { answer = Err ReceiverBelow; number = 0; balance = printed_balance }
 unfolding printed_balance lies_below below_to
-downstream_reply = sym (reply_early printed_balance (UnitTransfer 1 3 100) 18 printed_sound refl (omega arith))
+downstream_reply = sym (reply_early printed_balance (UnitTransfer 1 3 100) ReceiverBelow printed_sound refl)
 
 -- Two withdrawals from unit 3, and the balances after each and after the second is cancelled.
 abbrev pub seven_title : Title

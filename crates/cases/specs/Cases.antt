@@ -5,6 +5,7 @@ use Rattle.std.proofs.Common.{sym, ap, ◌∙◌}
 use Rattle.laws.specs.Sum.{sum_of}
 use Rattle.laws.specs.Gather.{gather, gather_to}
 use Rattle.laws.specs.Table.{table, tabulate}
+use Rattle.model.specs.declared.Refusal.{Refusal}
 use Rattle.model.specs.declared.Refusal.TheVariants.{ReceiverBelow, NoWater, FlowNeeded}
 use Rattle.model.specs.declared.Title.TheVariants.{UnitWithdrawal, AquiferWithdrawal, UnitTransfer, AquiferTransfer, ReturningWithdrawal}
 use Rattle.model.specs.declared.Call.TheVariants.{Grant, Cancel}
@@ -128,7 +129,7 @@ pub record CasesHold : Type 0 where
   pub h :
       printed printed_book
       ≡ ascii
-      "call 1 given 1\ncall 2 refused NoWater\ncall 3 refused NoWater\ncall 4 given 2\nunit 1 10080 4395 4395 5685\nunit 2 1540 671 671 869\nunit 3 8760 1000 934 7760\naquifer 1 2000 0\n"
+      "call 1 given 1\ncall 2 refused 17\ncall 3 refused 17\ncall 4 given 2\nunit 1 10080 4395 4395 5685\nunit 2 1540 671 671 869\nunit 3 8760 1000 934 7760\naquifer 1 2000 0\n"
   -- A transfer from unit 1 to unit 3, which lies below it, is refused.
   pub transfer_downstream :
       grant_reply (opened printed_book).balance (UnitTransfer 1 3 100)
@@ -146,7 +147,7 @@ pub record CasesHold : Type 0 where
   pub returning :
       printed returning_book
       ≡ ascii
-      "call 1 given 1\ncall 2 refused NoWater\ncall 3 given 2\ncall 4 refused FlowNeeded\nunit 1 10080 3428 3428 6652\nunit 2 139 48 1986 91\nunit 3 8759 1000 524 7759\naquifer 1 2000 0\n"
+      "call 1 given 1\ncall 2 refused 17\ncall 3 given 2\ncall 4 refused 20\nunit 1 10080 3428 3428 6652\nunit 2 139 48 1986 91\nunit 3 8759 1000 524 7759\naquifer 1 2000 0\n"
   -- Cancelled before that, it leaves the figures of (f).
   pub returning_cancelled :
       printed released_book
@@ -233,7 +234,7 @@ unfolding first_balance
 figures_after = figures_are (view_of first_balance) first_sound refl refl ∙ table_after_lem
 
 -- A refused call.
-abbrev refused_reply : ℕ → Balance → Reply
+abbrev refused_reply : Refusal → Balance → Reply
 refused_reply n b = record { answer = Err n; number = 0; balance = b }
 
 returns_left : ((view_of cancelled_balance).unit 2).returns ≡ 1
@@ -275,7 +276,7 @@ cases_hold =
       transfer_downstream =
           ap (λ (o : Opened). grant_reply o.balance (UnitTransfer 1 3 100)) printed_opens
           ∙ downstream_reply
-          ∙ sym (ap (λ (o : Opened). refused_reply 18 o.balance) printed_opens);
+          ∙ sym (ap (λ (o : Opened). refused_reply ReceiverBelow o.balance) printed_opens);
       cancelled_return =
           ap (λ (o : Opened). ((view_of (after o.balance (Grant seven_title ∷ Grant eight_title ∷ Cancel 2 ∷ []))).unit 2).returns) printed_opens
           ∙ ap (λ (b : Balance). ((view_of b).unit 2).returns) after_cancelled

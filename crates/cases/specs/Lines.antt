@@ -60,7 +60,7 @@ book_printed s cs text new h opens asks ends ran =
 
 -- The lines of the calls.
 abbrev pub calls_text : List ℕ
-calls_text = ascii "call 1 given 1\ncall 2 refused NoWater\ncall 3 refused NoWater\ncall 4 given 2\n"
+calls_text = ascii "call 1 given 1\ncall 2 refused 17\ncall 3 refused 17\ncall 4 given 2\n"
 
 runs : Runs 1 printed_balance the_calls calls_text last_balance
 unfolding call_given call_refused decimal decimal_below
@@ -91,7 +91,7 @@ printed_is =
 
 -- The same of the book whose well water comes back.
 abbrev pub returning_text : List ℕ
-returning_text = ascii "call 1 given 1\ncall 2 refused NoWater\ncall 3 given 2\ncall 4 refused FlowNeeded\n"
+returning_text = ascii "call 1 given 1\ncall 2 refused 17\ncall 3 given 2\ncall 4 refused 20\n"
 
 returning_runs : Runs 1 printed_balance returning_asked returning_text used_balance
 unfolding call_given call_refused decimal decimal_below

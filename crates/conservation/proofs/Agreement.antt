@@ -1,9 +1,8 @@
 -- The program's replies are the tally's, call by call. Assumes nothing.
 use Rattle.std.specs.Prelude.{Ok, Err}
 use Prim.Native.Nat.{ℕ, ◌+◌}
-use mathlib.Core.Path.{◌≡◌, refl, sym, ap, subst, ◌∙◌}
+use mathlib.Core.Path.{◌≡◌, refl, ap, subst, ◌∙◌}
 use mathlib.Core.Logic.{◌↔◌}
-use mathlib.Core.Bool.{Bool, true, false, true≢false}
 use mathlib.Core.List.{List, [], ◌∷◌, ◌++◌}
 use native.Mathlib.Omega.{arith}
 use Rattle.model.specs.declared.Refusal.{Refusal}
@@ -13,6 +12,7 @@ use Rattle.model.specs.declared.Call.TheVariants.{Grant, Cancel}
 use Rattle.model.specs.declared.Balance.{Balance}
 use Rattle.model.specs.View.{View, view_of}
 use Rattle.model.specs.Answers.{Answer}
+use Rattle.model.proofs.Answers.{not_accepted}
 use Rattle.book.specs.Reading.{Description, read, reading, opened}
 use Rattle.register.specs.declared.Reply.{Reply}
 use Rattle.effect.specs.Granted.{posted}
@@ -103,14 +103,10 @@ unfolding after
 after_list b [] c = refl
 after_list b (x ∷ xs) c = after_list (call_reply b x).balance xs c
 
-abbrev is_none : Answer → Bool
-is_none (Ok u) = true
-is_none (Err n) = false
-
 replied_exactly : (r : Answer) (old new : Balance) (n : ℕ) → ((replied r old new n).answer ≡ Ok tt) ↔ (r ≡ Ok tt)
 replied_exactly (Ok u) old new n = (λ e. refl, λ e. refl)
 replied_exactly (Err k) old new n =
-    (λ e. absurd (not_refused k (replied (Err k) old new n) refl e), λ e. absurd (true≢false (sym (ap is_none e))))
+    (λ e. absurd (not_refused k (replied (Err k) old new n) refl e), λ e. absurd (not_accepted k e))
 
 -- On every balance a call is accepted exactly when no refusal that documents 01 and 02 list for it applies, 0 included.
 pub call_accepted_exactly : (b : Balance) (c : Call) → ((call_reply b c).answer ≡ Ok tt) ↔ (after_test b (call_refusal (view_of b) c) ≡ Ok tt)

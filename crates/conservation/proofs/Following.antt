@@ -2,12 +2,12 @@
 use Rattle.std.specs.Prelude.{Ok, Err}
 use Prim.Native.Nat.{ℕ, suc, pred, ◌+◌, ◌-◌, ◌≤◌}
 use mathlib.Core.Path.{◌≡◌, refl, sym, ap, subst, subst⁻¹, ◌∙◌}
-use mathlib.Core.Bool.{Bool, true, false, not, true≢false}
+use mathlib.Core.Bool.{Bool, true, false, not}
 use mathlib.Core.List.{List, [], ◌∷◌}
 use lib.ListN.{length, length-replicate, get_or-eq_default}
 use native.Mathlib.Omega.{arith}
-use borrow.Author.Tests.{eq-eqb, ne_eqb, not-false}
-use Rattle.laws.proofs.Cases.{by_lt, by_eq}
+use borrow.Author.Tests.{not-false}
+use Rattle.laws.proofs.Cases.{by_lt}
 use Rattle.laws.specs.Sum.{naturals, sum_of, only}
 use Rattle.laws.proofs.Arrays.{get_or_empty, table_filled}
 use Rattle.laws.proofs.Putting.{put_read, put_holds, sum_put, sum_put_next}
@@ -23,6 +23,7 @@ use Rattle.model.specs.Entries.{with_entries, with_extraction}
 use Rattle.model.specs.Fresh.{empty_unit, empty_aquifer, empty_place}
 use Rattle.model.specs.View.{View, view_of}
 use Rattle.model.specs.Answers.{Answer, refuse}
+use Rattle.model.proofs.Answers.{pass}
 use Rattle.runoff.specs.Mean.{rounded}
 use Rattle.titles.specs.declared.Slot.{Slot}
 use Rattle.titles.specs.declared.Slot.TheVariants.{Extraction, Exports, Imports, Returns, WellExtraction}
@@ -40,8 +41,8 @@ use Rattle.register.specs.Reply.{replied}
 use Rattle.effect.specs.Cancelled.{title_of, cancelled, without_title}
 use Rattle.register.specs.Cancel.{number_in_force, cancel_refusal}
 use Rattle.register.specs.Calls.{call_refusal, call_reply, after}
-use Rattle.refusal.specs.Steps.{early_number}
-use Rattle.refusal.proofs.Granting.{judged, grant_judged}
+use Rattle.refusal.specs.Steps.{early_fault}
+use Rattle.refusal.proofs.Granting.{grant_judged, both_accept}
 use Rattle.effect.proofs.Changing.{changed_sized, posted_view}
 use Rattle.register.proofs.Replies.{grantable_of}
 use Rattle.register.proofs.Staying.{granted_sound}
@@ -172,32 +173,15 @@ module _ (d : Description) (t : Tally) (n : ℕ) (f : InForce (entries d t) n) (
       put_holds (λ e. e.back ≡ return_of e.title) t.place (pred n) (leaving (t.place (pred n))) (kept (pred n)) kept k
 
 -- What the absence of a refusal says.
-abbrev is_none : Answer → Bool
-is_none (Ok u) = true
-is_none (Err k) = false
-
-not_none : (k : ℕ) → Err k ≡ Ok tt → ⊥
-not_none k e = true≢false (sym (ap is_none e))
-
-unrefused : (k : ℕ) (t : Bool) (r : Answer) → refuse k t r ≡ Ok tt → (t ≡ false) × (r ≡ Ok tt)
-unrefused k true r e = absurd (not_none k e)
-unrefused k false r e = (refl, e)
-
-unjudged : (n : ℕ) (r : Answer) → judged n r ≡ Ok tt → (n ≡ 0) × (r ≡ Ok tt)
-unjudged n r e =
-    by_eq n 0
-    (λ q. (q, rw (eq-eqb n 0 q) at e))
-    (λ q. absurd (not_none n (rw (ne_eqb n 0 q) at e)))
-
-grant_unrefused : (v : View) (x : Title) → grant_refusal v x ≡ Ok tt → (early_number v x ≡ 0) × (no_water (granted v x) x ≡ false)
+grant_unrefused : (v : View) (x : Title) → grant_refusal v x ≡ Ok tt → (early_fault v x ≡ Ok tt) × (no_water (granted v x) x ≡ false)
 grant_unrefused v x e =
-    let p = unjudged (early_number v x) _ (sym (grant_judged v x) ∙ e) in
-    (p.0, (unrefused 17 (no_water (granted v x) x) (Ok tt) p.1).0)
+    let p = both_accept (early_fault v x) _ (sym (grant_judged v x) ∙ e) in
+    (p.0, (pass (no_water (granted v x) x) _ _ p.1).not)
 
 cancel_unrefused : (v : View) (n : ℕ) → cancel_refusal v n ≡ Ok tt → (number_in_force v n ≡ true) × (flowing (cancelled v n) ≡ true)
 cancel_unrefused v n e =
-    let p = unrefused 19 (not (number_in_force v n)) _ e in
-    (not-false _ p.0, not-false _ (unrefused 20 (not (flowing (cancelled v n))) (Ok tt) p.1).0)
+    let p = pass (not (number_in_force v n)) _ _ e in
+    (not-false _ p.not, not-false _ (pass (not (flowing (cancelled v n))) _ _ p.on).not)
 
 -- What an accepted call makes of a balance, and the number that it carries.
 abbrev pub changed : Balance → Call → Balance

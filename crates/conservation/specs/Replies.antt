@@ -27,7 +27,7 @@ number_for t (Cancel n) = n
 
 abbrev pub saying : Answer → ℕ → Said
 saying (Ok u) n = record { answer = Ok tt; number = n }
-saying (Err k) n = record { answer = (Err k); number = 0 }
+saying (Err k) n = record { answer = Err k; number = 0 }
 
 -- What the tally says of a list of calls.
 unfoldable pub sayings : Description → Tally → List Call → List Said

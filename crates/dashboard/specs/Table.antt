@@ -1,7 +1,7 @@
 -- The table of a book, as a dashboard reads it. Assumes nothing.
-use Rattle.record.specs.Calls.{Ending, failed}
+use Rattle.record.specs.Calls.{Ending}
 use Rattle.std.specs.Prelude.{ℕ, Bool, true, false, List, Ok, Err}
-use Rattle.model.specs.Answers.{Answer}
+use Rattle.model.specs.Answers.{Answer, number}
 use Rattle.model.specs.declared.Balance.{Balance}
 use Rattle.model.specs.View.{view_of}
 use Rattle.basin.specs.Figures.{figures_reply}
@@ -26,7 +26,7 @@ table_of accepted number place b =
 -- The table after the calls: the number and place of the record that failed, 0 if none did.
 abbrev pub table_by : Ending → Balance → Table
 table_by (Ok u) b = table_of true 0 0 b
-table_by (Err f) b = table_of true n place b
+table_by (Err f) b = table_of true (number f.refusal) f.place b
 
 abbrev pub table_after : Ran → Table
 table_after r = table_by r.ending r.balance
@@ -34,7 +34,7 @@ table_after r = table_by r.ending r.balance
 -- A refused description has its number and place, and the figures of the fresh balance, which are all 0.
 abbrev pub opened_table : List ℕ → Answer → ℕ → Balance → Table
 opened_table s (Ok u) place b = table_after (ran s place b)
-opened_table s (Err n) place b = table_of false n place b
+opened_table s (Err r) place b = table_of false (number r) place b
 
 abbrev pub book_table : List ℕ → Table
 book_table s = opened_table s (opened s).answer (opened s).place (opened s).balance

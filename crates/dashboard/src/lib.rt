@@ -10,8 +10,7 @@ ghost use Rattle.dashboard.specs.Table as tables;
 
 use calls::Ran;
 use figures::{AquiferFigures, UnitFigures};
-use model::{Answer, Balance};
-use record::Ending;
+use model::Balance;
 use report::ROOM;
 
 // The table of a book after its calls: whether its description was accepted, the number and place of a refusal or of a call record that
@@ -59,11 +58,9 @@ fn table_of(accepted: bool, number: u8, place: usize, b: Balance) -> Table
 fn table_after(ran: Ran) -> Table
     ensures { result ≡ tables.table_after ran }
 {
-    let ending = ran.ending;
-    let balance = ran.balance;
-    match ending {
-        Ending::Finished => table_of(true, 0, 0, balance),
-        Ending::Failed { number, place } => table_of(true, number, place, balance),
+    match ran.ending {
+        Ok(()) => table_of(true, 0, 0, ran.balance),
+        Err(failure) => table_of(true, failure.refusal.number(), failure.place, ran.balance),
     }
 }
 
@@ -76,8 +73,8 @@ pub fn hasheqro_figures(book: &[u8]) -> Table
     let place = o.place;
     let balance = o.balance;
     match answer {
-        Answer::Accepted => table_after(calls::tested::run_tested(book, place, balance, true)),
-        Answer::Refused(number) => table_of(false, number, place, balance),
+        Ok(()) => table_after(calls::tested::run_tested(book, place, balance, true)),
+        Err(refusal) => table_of(false, refusal.number(), place, balance),
     }
 }
 
@@ -98,11 +95,11 @@ fn balance_after(book: &[u8]) -> Balance
     let place = o.place;
     let balance = o.balance;
     match answer {
-        Answer::Accepted => {
+        Ok(()) => {
             let ran = calls::tested::run_tested(book, place, balance, true);
             ran.balance
         }
-        Answer::Refused(_) => balance,
+        Err(_) => balance,
     }
 }
 
@@ -121,8 +118,8 @@ fn figured(b: Balance) -> u64
     let f = basin::reply::figures(b);
     let answer = f.answer;
     match answer {
-        Answer::Accepted => 1,
-        Answer::Refused(_) => 0,
+        Ok(()) => 1,
+        Err(_) => 0,
     }
 }
 

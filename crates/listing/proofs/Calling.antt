@@ -8,7 +8,7 @@ use native.Mathlib.Numerals.{add-one, sub-one}
 use native.Mathlib.Omega.{arith}
 use Rattle.model.specs.declared.Refusal.{Refusal}
 use Rattle.model.specs.declared.Call.{Call}
-use Rattle.model.specs.Answers.{Answer}
+use Rattle.model.specs.Answers.{Answer, number}
 use Rattle.model.specs.declared.Balance.{Balance}
 use Rattle.record.specs.declared.CallAt.TheVariants.{End, Fails, Asks}
 use Rattle.record.specs.Calls.{Ending, call_at, calls_from, calls_of}
@@ -53,7 +53,7 @@ told : (k : ℕ) (b : Balance) (c : Call) (a : Answer) (n : ℕ) → a ≡ (call
 told k b c (Ok tt) n e q =
     subst (λ (a : Answer). accepted_text k c n ≡ call_text k c a (call_reply b c).number) e
     (ap (accepted_text k c) (q ∙ sym (accepted_number b c (sym e))))
-told k b c (Err x) n e q = subst (λ (a : Answer). call_refused k x ≡ call_text k c a (call_reply b c).number) e refl
+told k b c (Err x) n e q = subst (λ (a : Answer). call_refused k (number x) ≡ call_text k c a (call_reply b c).number) e refl
 
 -- The loop after k calls: what is written, and that with the lines that are left it is all call lines.
 pub record Printing (s : List ℕ) (from : ℕ) (start : Balance) (old : List ℕ) (p₀ : ℕ) (out : List ℕ) (p : ℕ) (b : Balance) (at k left : ℕ) : Type 0 where
@@ -79,7 +79,7 @@ module _ (s : List ℕ) (from : ℕ) (start : Balance) (old : List ℕ) (p₀ : 
   lines_end zero h i e = absurd (omega arith)
   lines_end (suc left) h i e = restate i.written (no_more i.text _ _ i.all (left_ends left k s at b e))
 
-  pub lines_fail : (left n : ℕ) → 0 < left → Printing s from start old p₀ out p b at k left → call_at s at ≡ Fails n
+  pub lines_fail : (left : ℕ) (n : Refusal) → 0 < left → Printing s from start old p₀ out p b at k left → call_at s at ≡ Fails n
       → Written (64 * k) old p₀ (call_lines 1 start (calls_of s from)) out p
   lines_fail zero n h i e = absurd (omega arith)
   lines_fail (suc left) n h i e = restate i.written (no_more i.text _ _ i.all (left_fails left k s at b n e))
@@ -120,7 +120,7 @@ module _ (s : List ℕ) (from : ℕ) (start : Balance) (old : List ℕ) (p₀ : 
   printing_answered left c to new q a n f g h i e w = printing_asks left c to new q h i e (restate w (told (k + 1) b c a n f g))
 
   -- A refused call leaves the balance as it is.
-  pub printing_refused : (left : ℕ) (c : Call) (to : ℕ) (new : List ℕ) (q : ℕ) (a : Answer) (n m : ℕ) → a ≡ (call_reply b c).answer → n ≡ call_number b.given c
+  pub printing_refused : (left : ℕ) (c : Call) (to : ℕ) (new : List ℕ) (q : ℕ) (a : Answer) (n : ℕ) (m : Refusal) → a ≡ (call_reply b c).answer → n ≡ call_number b.given c
       → a ≡ Err m → 0 < left → Printing s from start old p₀ out p b at k left → call_at s at ≡ Asks c to
       → Written 64 out p (call_text (k + 1) c a n) new q → Printing s from start old p₀ new q b to (k + 1) (left - 1)
   printing_refused left c to new q a n m f g r h i e w =

@@ -11,7 +11,7 @@ use Rattle.laws.proofs.Cases.{by_bool}
 use Rattle.laws.proofs.Arrays.{get_or_table}
 use Rattle.model.specs.declared.Refusal.{Refusal}
 use Rattle.model.specs.declared.Refusal.TheVariants.{Unsound}
-use Rattle.model.specs.Answers.{Answer}
+use Rattle.model.specs.Answers.{Answer, number}
 use Rattle.model.specs.View.{View}
 use Rattle.figures.specs.declared.UnitFigures.{UnitFigures}
 use Rattle.figures.specs.declared.AquiferFigures.{AquiferFigures}
@@ -78,5 +78,5 @@ module _ (s : List ℕ) (h : length s ≤ 65536) (a : Answer) (e : (opened s).an
 pub printed_accepted : (s : List ℕ) → length s ≤ 65536 → (opened s).answer ≡ Ok tt → run_text s (opened s).place (opened s).balance ≡ printed s
 printed_accepted s h e = by_answer s h (Ok tt) e
 
-pub printed_refused : (s : List ℕ) (n : ℕ) → length s ≤ 65536 → (opened s).answer ≡ Err n → refused_line n (opened s).place ≡ printed s
+pub printed_refused : (s : List ℕ) (n : Refusal) → length s ≤ 65536 → (opened s).answer ≡ Err n → refused_line (number n) (opened s).place ≡ printed s
 printed_refused s n h e = by_answer s h (Err n) e

@@ -1,6 +1,6 @@
 -- The whole text that is printed for a book (document 01, "One book, printed"). Assumes nothing.
 use Rattle.std.specs.Prelude.{ℕ, zero, suc, cond, List, [], ◌∷◌, ◌++◌, ltb, length, Ok, Err}
-use Rattle.model.specs.Answers.{Answer}
+use Rattle.model.specs.Answers.{Answer, number}
 use Rattle.model.specs.declared.Call.{Call}
 use Rattle.model.specs.declared.Call.TheVariants.{Grant, Cancel}
 use Rattle.model.specs.declared.Balance.{Balance}
@@ -42,7 +42,7 @@ accepted_text k (Cancel m) n = call_cancelled k n
 
 abbrev pub call_text : ℕ → Call → Answer → ℕ → List ℕ
 call_text k c (Ok u) n = accepted_text k c n
-call_text k c (Err x) n = call_refused k x
+call_text k c (Err r) n = call_refused k (number r)
 
 -- The lines of a list of calls, the first of them at place k, run over a balance one after the other.
 unfoldable pub call_lines : ℕ → Balance → List Call → List ℕ
@@ -53,7 +53,7 @@ call_lines k b (c ∷ cs) =
 -- A call record failing with 1 or 2 prints `refused N at P`.
 abbrev pub end_text : Ending → List ℕ
 end_text (Ok u) = []
-end_text (Err f) = refused_line n place
+end_text (Err f) = refused_line (number f.refusal) f.place
 
 -- What follows the call lines: the line of a record that failed, then the table after the calls.
 abbrev pub ran_text : Ending → Balance → List ℕ
@@ -66,7 +66,7 @@ run_text s at b = call_lines 1 b (calls_of s at) ++ ran_text (ending_of s at) (a
 -- An accepted description prints its calls and its table, a refused one only `refused N at P`.
 abbrev pub answer_text : List ℕ → Answer → ℕ → Balance → List ℕ
 answer_text s (Ok u) place b = run_text s place b
-answer_text s (Err n) place b = refused_line n place
+answer_text s (Err r) place b = refused_line (number r) place
 
 -- 21 a book over 65,536 bytes, place 65536, printed as a refused description. Otherwise what its opening gives.
 abbrev pub printed_by : List ℕ → Opened → List ℕ

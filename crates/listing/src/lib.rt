@@ -3,6 +3,8 @@
 
 ghost use Rattle.std.specs.Prelude.{◌≡◌, ◌+◌, ◌≤◌, length, get_or, true};
 ghost use Rattle.model.specs.View.{view_of};
+ghost use Rattle.model.specs.Answers.{number};
+ghost use Rattle.report.specs.Lines.{refused_line};
 ghost use Rattle.model.specs.Limits.{unit_limit, aquifer_limit};
 ghost use Rattle.basin.specs.Sound.{sound};
 ghost use Rattle.figures.specs.Figures.{no_unit_figures, no_aquifer_figures};
@@ -12,9 +14,12 @@ ghost use Rattle.listing.specs.Printing as printing;
 
 use basin::reply::figures;
 use figures::{AquiferFigures, UnitFigures};
-use model::{Answer, Balance, Call};
-use record::{CallAt, Ending};
+use model::{Answer, Balance, Call, Refusal};
+use record::{CallAt, Ending, Failure};
 use report::ROOM;
+
+// The longest book.
+const LONGEST: usize = 65536;
 
 // The lines of the first n units.
 fn unit_lines(
@@ -96,11 +101,11 @@ pub fn table(out: &mut [u8; ROOM], at: usize, b: Balance) -> usize
     let units = f.units;
     let aquifers = f.aquifers;
     match answer {
-        Answer::Accepted => {
+        Ok(()) => {
             let p = unit_lines(out, at, units, n);
             aquifer_lines(out, p, aquifers, m)
         }
-        Answer::Refused(_) => report::no_line(out, at),
+        Err(_) => report::no_line(out, at),
     }
 }
 
@@ -128,8 +133,8 @@ fn call_line(
     ensures { Written 64 out.old at (text.call_text k call answer number) out.new result }
 {
     match answer {
-        Answer::Accepted => accepted_line(out, at, k, call, number),
-        Answer::Refused(code) => report::call_refused(out, at, k, code as u64),
+        Ok(()) => accepted_line(out, at, k, call, number),
+        Err(refusal) => report::call_refused(out, at, k, u64::from(refusal.number())),
     }
 }
 
@@ -157,14 +162,14 @@ fn call_lines(s: &[u8], from: usize, balance: Balance, out: &mut [u8; ROOM]) -> 
             CallAt::End => {
                 return Lines {
                     next: p,
-                    ending: Ending::Finished,
+                    ending: Ok(()),
                     balance: b,
                 };
             }
-            CallAt::Fails { number } => {
+            CallAt::Fails { refusal } => {
                 return Lines {
                     next: p,
-                    ending: Ending::Failed { number, place: at },
+                    ending: Err(Failure { refusal, place: at }),
                     balance: b,
                 };
             }
@@ -175,22 +180,28 @@ fn call_lines(s: &[u8], from: usize, balance: Balance, out: &mut [u8; ROOM]) -> 
                 p = call_line(out, p, k, call, answer, number);
                 at = to;
                 match answer {
-                    Answer::Accepted => {
-                        b = register::outcome::perform(b, call);
-                    }
-                    Answer::Refused(_) => {}
+                    Ok(()) => b = register::outcome::perform(b, call),
+                    Err(_) => {}
                 }
             }
         }
     }
     Lines {
         next: p,
-        ending: Ending::Failed {
-            number: 1,
+        ending: Err(Failure {
+            refusal: Refusal::Short,
             place: at,
-        },
+        }),
         balance: b,
     }
+}
+
+// The line of a refused description or of a record that failed.
+pub fn refused_line(out: &mut [u8; ROOM], at: usize, refusal: Refusal, place: usize) -> usize
+    requires { at + 128 ≤ 1064960 }
+    ensures { Written 128 out.old at (refused_line (number refusal) place) out.new result }
+{
+    report::refused_line(out, at, u64::from(refusal.number()), place as u64)
 }
 
 // The line of a record that failed, if one did.
@@ -199,13 +210,8 @@ fn end_line(out: &mut [u8; ROOM], at: usize, ending: Ending) -> usize
     ensures { Written 128 out.old at (text.end_text ending) out.new result }
 {
     match ending {
-        Ending::Finished => report::no_line(out, at),
-        Ending::Failed { number, place } => report::refused_line(
-            out,
-            at,
-            number as u64,
-            place as u64,
-        ),
+        Ok(()) => report::no_line(out, at),
+        Err(failure) => refused_line(out, at, failure.refusal, failure.place),
     }
 }
 
@@ -233,15 +239,15 @@ fn run_lines(s: &[u8], from: usize, balance: Balance, out: &mut [u8; ROOM]) -> u
 pub fn print_book(s: &[u8], out: &mut [u8; ROOM]) -> usize
     ensures { Written 1064960 out.old 0 (text.printed s.now) out.new result }
 {
-    if 65536 < s.len() {
-        return report::refused_line(out, 0, 21, 65536);
+    if LONGEST < s.len() {
+        return refused_line(out, 0, Refusal::TooLong, LONGEST);
     }
     let o = book::read_book(s);
     let answer = o.answer;
     let place = o.place;
     let balance = o.balance;
     match answer {
-        Answer::Accepted => run_lines(s, place, balance, out),
-        Answer::Refused(number) => report::refused_line(out, 0, number as u64, place as u64),
+        Ok(()) => run_lines(s, place, balance, out),
+        Err(refusal) => refused_line(out, 0, refusal, place),
     }
 }

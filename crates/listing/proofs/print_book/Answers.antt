@@ -3,19 +3,20 @@ use mathlib.Core.Path.{sym, ap, ◌∙◌}
 use native.Mathlib.Omega.{arith}
 use Rattle.book.specs.declared.Opened.{Opened}
 use Rattle.book.proofs.Promises.{opened_sound}
+use Rattle.model.specs.Answers.{number}
 use Rattle.report.specs.Lines.{refused_line}
 use Rattle.text.proofs.Writing.{widen, restate}
 use Rattle.listing.specs.Listing.{run_text}
 use Rattle.listing.proofs.Tables.{printed_long, printed_accepted, printed_refused}
 use Rattle.listing.proofs.print_book.Goals as goal
 
-pub returns-then-s-gt65536 : goal.returns-then-s-gt65536
-returns-then-s-gt65536 c = widen (restate c.refused_line.ensures (printed_long c.args.s.now c.if-s-gt65536.true)) (omega arith)
+pub returns-then-s-gt-LONGEST : goal.returns-then-s-gt-LONGEST
+returns-then-s-gt-LONGEST c = widen (restate c.refused_line.ensures (printed_long c.args.s.now c.if-s-gt-LONGEST.true)) (omega arith)
 
 pub run_lines-requires : goal.run_lines-requires
 run_lines-requires c =
     let s = c.args.s.now in
-    (omega (arith, c.if-s-gt65536.false), opened_sound s _ c.read_book-o.ensures)
+    (omega (arith, c.if-s-gt-LONGEST.false), opened_sound s _ c.read_book-o.ensures)
 
 pub returns-in-Ok : goal.returns-in-Ok
 returns-in-Ok c =
@@ -23,7 +24,7 @@ returns-in-Ok c =
     let r = c.read_book-o.ensures in
     restate c.run_lines.ensures
     (ap (λ (o : Opened). run_text s o.place o.balance) r
-    ∙ printed_accepted s c.if-s-gt65536.false (ap (λ (o : Opened). o.answer) (sym r) ∙ c.in-Ok.is))
+    ∙ printed_accepted s c.if-s-gt-LONGEST.false (ap (λ (o : Opened). o.answer) (sym r) ∙ c.in-Ok.is))
 
 pub returns-in-Err : goal.returns-in-Err
 returns-in-Err c =
@@ -31,6 +32,6 @@ returns-in-Err c =
     let r = c.read_book-o.ensures in
     widen
     (restate c.refused_line-in-Err.ensures
-    (ap (λ (o : Opened). refused_line c.in-Err.number o.place) r
-    ∙ printed_refused s _ c.if-s-gt65536.false (ap (λ (o : Opened). o.answer) (sym r) ∙ c.in-Err.is)))
+    (ap (λ (o : Opened). refused_line (number c.in-Err.refusal) o.place) r
+    ∙ printed_refused s _ c.if-s-gt-LONGEST.false (ap (λ (o : Opened). o.answer) (sym r) ∙ c.in-Err.is)))
     (omega arith)

@@ -8,7 +8,7 @@ use Rattle.basin.specs.declared.Figures.{Figures}
 use Rattle.text.proofs.Writing.{then, widen, restate}
 use Rattle.listing.proofs.Tables.{figures_sound, refused_unsound, few_units, few_aquifers, unit_lines_are, aquifer_lines_are, table_is, no_table}
 use Rattle.listing.proofs.table.Goals as goal
-use Rattle.listing.proofs.table.Goals.{In-Accepted}
+use Rattle.listing.proofs.table.Goals.{In-Ok}
 
 sound-here : (c : In-Ok) → sound (view_of c.args.b) ≡ true
 sound-here c =

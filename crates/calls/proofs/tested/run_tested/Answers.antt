@@ -19,8 +19,8 @@ pub returns-in-Fails : goal.returns-in-Fails
 returns-in-Fails c =
     turn_fails _ _ _ _ _ _ c.loop-left-test.true c.loop-left.invariant.0 (sym c.in-Fails.ensures)
 
-pub decide-answer-requires : goal.decide-answer-requires
-decide-answer-requires c = c.loop-left.invariant.1
+pub decide-requires : goal.decide-requires
+decide-requires c = c.loop-left.invariant.1
 
 pub perform-b-requires : goal.perform-b-requires
 perform-b-requires c = sym c.in-Ok.ensures
