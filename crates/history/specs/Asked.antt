@@ -1,6 +1,7 @@
 -- What a list of requests comes to, by what they ask alone: "For someone who went back, the list of calls is the one up to
 -- the keeping, followed by those after the return." No reply and no balance is among the arguments. Assumes nothing.
-use Rattle.std.specs.Prelude.{ℕ, Bool, true, false, cond, not, ◌&&◌, ◌||◌, List, [], ◌∷◌, ◌++◌, leb, length, get_or}
+use Rattle.std.specs.Prelude.{ℕ, Bool, true, false, cond, not, ◌&&◌, ◌||◌, List, [], ◌∷◌, ◌++◌, leb, length, get_or, Ok, Err}
+use Rattle.model.specs.declared.Refusal.TheVariants.{FifthName, NoSuchName}
 use Rattle.model.specs.declared.Call.{Call}
 use Rattle.model.specs.Answers.{Answer, refuse}
 use Rattle.book.specs.Reading.{Description}

@@ -1,6 +1,7 @@
 -- The state of a book in which four balances are kept, and how many of many calls on it are counted. Assumes nothing.
-use Rattle.std.specs.Prelude.{◌≡◌, ℕ, zero, suc, ◌+◌, ◌-◌, ◌%◌, ◌^◌, ◌<◌, ◌≤◌, List, set, replicate}
+use Rattle.std.specs.Prelude.{◌≡◌, ℕ, zero, suc, ◌+◌, ◌-◌, ◌%◌, ◌^◌, ◌<◌, ◌≤◌, List, set, replicate, Ok, Err}
 use Rattle.std.specs.Borrow.{MutBor}
+use Rattle.model.specs.Answers.{Answer}
 use Rattle.model.specs.declared.Call.TheVariants.{Cancel}
 use Rattle.register.specs.Calls.{call_reply}
 use Rattle.calls.specs.Running.{ran}

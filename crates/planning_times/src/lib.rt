@@ -23,10 +23,7 @@ fn name_in_turn(i: u64) -> Name
 fn accepted(answer: Answer) -> u64
     ensures { result ≡ timed.accepted answer }
 {
-    match answer {
-        Answer::Accepted => 1,
-        Answer::Refused(_) => 0,
-    }
+    u64::from(answer.is_ok())
 }
 
 // The state of a book after its calls; of a refused description the fresh one.
@@ -35,7 +32,7 @@ fn after_calls(book: &[u8]) -> State
 {
     let o = planning::open_book(book);
     let mut s = o.state;
-    if let Answer::Accepted = o.answer {
+    if o.answer.is_ok() {
         s.balance = calls::run(book, o.place, s.balance).balance;
     }
     s

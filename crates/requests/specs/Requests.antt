@@ -1,4 +1,4 @@
--- Calls, keepings and returns as one, and the state after a list of them (document 02 [3]). Assumes nothing.
+-- Calls, keepings and returns as one, and the state after a list of them. Assumes nothing.
 use Rattle.std.specs.Prelude.{ℕ, zero, suc, ◌+◌, List, [], ◌∷◌, length}
 use Rattle.model.specs.declared.Refusal.{Refusal}
 use Rattle.model.specs.declared.Call.{Call}
