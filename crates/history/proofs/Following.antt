@@ -5,7 +5,7 @@ use mathlib.Core.Path.{◌≡◌, sym, ap, subst⁻¹, ◌∙◌}
 use mathlib.Core.Bool.{Bool, true, false, cond, not, ◌&&◌, true≢false}
 use mathlib.Core.List.{List, [], ◌∷◌, ◌++◌}
 use lib.Dec.{leb}
-use lib.ListN.{length, set}
+use lib.ListN.{length, get_or, set}
 use native.Mathlib.Omega.{arith}
 use borrow.Author.Tests.{le-leb, lt-leb}
 use Rattle.laws.specs.Table.{table}
@@ -16,7 +16,6 @@ use Rattle.model.specs.declared.Refusal.TheVariants.{FifthName, NoSuchName}
 use Rattle.model.specs.declared.Balance.{Balance}
 use Rattle.model.specs.declared.Call.{Call}
 use Rattle.model.specs.Answers.{refuse}
-use Rattle.model.specs.Fresh.{fresh_balance}
 use Rattle.model.specs.View.{view_of}
 use Rattle.river.proofs.Firsts.{first_same}
 use Rattle.basin.specs.Sound.{sound}
@@ -27,14 +26,15 @@ use Rattle.conservation.specs.Replies.{Said, saying}
 use Rattle.conservation.proofs.Following.{Follows, follows_calls}
 use Rattle.conservation.proofs.Agreement.{same_saying, after_list}
 use Rattle.planning.specs.declared.Name.{Name}
+use Rattle.planning.specs.declared.Kept.{Kept}
 use Rattle.planning.specs.declared.Reply.{Reply}
-use Rattle.planning.specs.Names.{place_limit, same_name, name_at, place_of, distinct}
-use Rattle.planning.specs.State.{empty_name, balance_at, kept_sound, sound_state}
-use Rattle.planning.specs.Calls.{place_in}
+use Rattle.planning.specs.Names.{place_limit, same_name, place_of, distinct}
+use Rattle.planning.specs.State.{empty_kept, no_kept, name_at as held_at, balance_at, kept_sound, sound_state}
+use Rattle.planning.specs.Calls.{place_in, kept_under}
 use Rattle.planning.proofs.Naming.{same_self, same_sym, same_through}
 use Rattle.planning.proofs.Replying.{stands, keep_again, keep_fifth, keep_new, back_none, back_to}
-use Rattle.history.specs.Asked.{Request, ask, keep, back, Asked, among, asking, telling}
-use Rattle.history.specs.Claim.{state_after, told, described}
+use Rattle.history.specs.Asked.{Request, ask, keep, back, Asked, name_at, among, asking, telling}
+use Rattle.history.specs.Claim.{state_after, told, kept_as, described}
 use Rattle.history.proofs.Kept.{Sought, found, absent, sought, Well, name_before, name_last, one_longer, replacing, adding, kept_again, kept_new, kept_fifth, back_found, back_absent, well_replacing, well_adding}
 
 -- What a reply of keeping or going back says.
@@ -49,12 +49,14 @@ pub record Step (d : Description) (b : Balance) (a : Asked) (r : Request) : Type
 
 module _ (d : Description) (b : Balance) (f : Follows d b start) (a : Asked) (w : Well a) where
   -- The names and the balances that the described state holds.
-  pub held_name : (k : ℕ) → k < length a.names → name_at (described b a).names k ≡ name_at a.names k
-  held_name k h = table_at place_limit empty_name (length a.names) (name_at a.names) _ k h (omega (arith, w.few))
+  held : (k : ℕ) → k < length a.names → get_or (described b a).kept k no_kept ≡ kept_as b a (name_at a.names k)
+  held k h = table_at place_limit empty_kept (length a.names) (λ j. kept_as b a (name_at a.names j)) _ k h (omega (arith, w.few))
+
+  held_name : (k : ℕ) → k < length a.names → held_at (described b a).kept k ≡ name_at a.names k
+  held_name k h = ap (λ (x : Kept). x.name) (held k h)
 
   pub held_balance : (k : ℕ) → k < length a.names → balance_at (described b a).kept k ≡ after b (a.line (name_at a.names k))
-  held_balance k h =
-      table_at place_limit fresh_balance (length a.names) (λ j. after b (a.line (name_at a.names j))) _ k h (omega (arith, w.few))
+  held_balance k h = ap (λ (x : Kept). x.balance) (held k h)
 
   sound_after : (cs : List Call) → sound (view_of (after b cs)) ≡ true
   sound_after cs = (follows_calls d b start f cs).stands
@@ -64,7 +66,7 @@ module _ (d : Description) (b : Balance) (f : Follows d b start) (a : Asked) (w 
   kept_sound_lem =
       each_every _ (length a.names) (λ k h. subst⁻¹ (λ (y : Balance). sound (view_of y) ≡ true) (held_balance k h) (sound_after _))
 
-  names_apart : distinct (described b a).names (length a.names) ≡ true
+  names_apart : distinct (held_at (described b a).kept) (length a.names) ≡ true
   unfolding distinct
   names_apart =
       each_every _ (length a.names)
@@ -76,7 +78,7 @@ module _ (d : Description) (b : Balance) (f : Follows d b start) (a : Asked) (w 
   sound_described =
       stands (described b a) (record { current = sound_after a.current; few = w.few; kept = kept_sound_lem; apart = names_apart })
 
-  place_same : (n : Name) → place_in (described b a) n ≡ place_of a.names (length a.names) n
+  place_same : (n : Name) → place_in (described b a) n ≡ place_of (name_at a.names) (length a.names) n
   place_same n = first_same (length a.names) _ _ (λ k h. ap (λ (m : Name). same_name m n) (held_name k h))
 
   -- No other name is the same as one that is found.
@@ -92,53 +94,47 @@ module _ (d : Description) (b : Balance) (f : Follows d b start) (a : Asked) (w 
       (λ l. absurd (true≢false (sym (same_through y n x e (same_sym x n p)) ∙ w.apart j k g (omega arith)))))
       (λ p. p)
 
-  -- The balance after the list of calls that stands under a name once another one was kept.
-  abbrev line_after : Name → Name → Bool → Balance
-  line_after n m t = after b (cond t a.current (a.line m))
+  -- What stands under a name once another one was kept, by whether the two are the same.
+  abbrev kept_after : Name → Name → Bool → Kept
+  kept_after n m t = record { name = m; balance = after b (cond t a.current (a.line m)) }
 
   replaced : (n : Name) (k : ℕ) → k < length a.names → same_name (name_at a.names k) n ≡ true
-      → set (described b a).kept k (after b a.current) ≡ (described b (replacing a n)).kept
+      → kept_under (described b a) k (held_at (described b a).kept k) ≡ (described b (replacing a n)).kept
   replaced n k h e =
-      table_put place_limit fresh_balance (length a.names) _ _ k _ w.few h
-      (ap (line_after n (name_at a.names k)) (sym e))
-      (λ j g q. ap (line_after n (name_at a.names j)) (sym (other n k j h g e q)))
+      table_put place_limit empty_kept (length a.names) _ _ k _ w.few h
+      (λ i. kept_after n (held_name k h i) (sym e i))
+      (λ j g q. ap (kept_after n (name_at a.names j)) (sym (other n k j h g e q)))
 
-  keep_found : (n : Name) (k : ℕ) → place_of a.names (length a.names) n ≡ Some k → k < length a.names
+  keep_found : (n : Name) (k : ℕ) → place_of (name_at a.names) (length a.names) n ≡ Some k → k < length a.names
       → same_name (name_at a.names k) n ≡ true → among a.names n ≡ true → Step d b a (keep n)
   keep_found n k p h e q =
       let r = keep_again (described b a) n sound_described k (place_same n ∙ p) in
       record {
         holds =
             ap (λ (y : Reply). y.state) r
-            ∙ (λ i. record { balance = after b a.current; names = (described b a).names; kept = replaced n k h e i; count = length a.names })
+            ∙ (λ i. record { balance = after b a.current; kept = replaced n k h e i; count = length a.names })
             ∙ ap (described b) (sym (kept_again a n q));
         tells = ap said_in r ∙ sym (λ i. saying (refuse FifthName (not (q i) && leb place_limit (length a.names)) (Ok tt)) 0);
         well = subst⁻¹ Well (kept_again a n q) (well_replacing a n w);
       }
 
   -- A new name takes the next place.
-  added_names : (n : Name) → length a.names < place_limit → set (described b a).names (length a.names) n ≡ (described b (adding a n)).names
-  added_names n h =
-      ap (λ (l : List Name). set l (length a.names) n)
-      (table_same place_limit empty_name (length a.names) (name_at a.names) (name_at (a.names ++ (n ∷ []))) w.few
-      (λ k g. sym (name_before a.names n k g)))
-      ∙ table_more place_limit empty_name (length a.names) (name_at (a.names ++ (n ∷ []))) n h (sym (name_last a.names n))
-      ∙ (λ i. table place_limit empty_name (sym (one_longer a.names n) i) (name_at (a.names ++ (n ∷ []))))
-
-  added_kept : (n : Name) → length a.names < place_limit → ((k : ℕ) → k < length a.names → same_name (name_at a.names k) n ≡ false)
-      → set (described b a).kept (length a.names) (after b a.current) ≡ (described b (adding a n)).kept
-  added_kept n h none-same =
-      let line : ℕ → Balance = λ k. line_after n (name_at (a.names ++ (n ∷ [])) k) (same_name (name_at (a.names ++ (n ∷ [])) k) n) in
-      ap (λ (l : List Balance). set l (length a.names) (after b a.current))
-      (table_same place_limit fresh_balance (length a.names) (λ k. after b (a.line (name_at a.names k))) line w.few
+  added : (n : Name) → length a.names < place_limit → ((k : ℕ) → k < length a.names → same_name (name_at a.names k) n ≡ false)
+      → kept_under (described b a) (length a.names) n ≡ (described b (adding a n)).kept
+  added n h none-same =
+      let names = a.names ++ (n ∷ []) in
+      let next : ℕ → Kept = λ k. kept_after n (name_at names k) (same_name (name_at names k) n) in
+      let last = kept_after n n true in
+      ap (λ (l : List Kept). set l (length a.names) last)
+      (table_same place_limit empty_kept (length a.names) (λ k. kept_as b a (name_at a.names k)) next w.few
       (λ k g.
-      sym ((λ i. line_after n (name_before a.names n k g i) (same_name (name_before a.names n k g i) n))
-      ∙ ap (line_after n (name_at a.names k)) (none-same k g))))
-      ∙ table_more place_limit fresh_balance (length a.names) line (after b a.current) h
-      (sym ((λ i. line_after n (name_last a.names n i) (same_name (name_last a.names n i) n)) ∙ ap (line_after n n) (same_self n)))
-      ∙ (λ i. table place_limit fresh_balance (sym (one_longer a.names n) i) line)
+      sym ((λ i. kept_after n (name_before a.names n k g i) (same_name (name_before a.names n k g i) n))
+      ∙ ap (kept_after n (name_at a.names k)) (none-same k g))))
+      ∙ table_more place_limit empty_kept (length a.names) next last h
+      (sym ((λ i. kept_after n (name_last a.names n i) (same_name (name_last a.names n i) n)) ∙ ap (kept_after n n) (same_self n)))
+      ∙ (λ i. table place_limit empty_kept (sym (one_longer a.names n) i) next)
 
-  keep_added : (n : Name) → place_of a.names (length a.names) n ≡ None
+  keep_added : (n : Name) → place_of (name_at a.names) (length a.names) n ≡ None
       → ((k : ℕ) → k < length a.names → same_name (name_at a.names k) n ≡ false) → among a.names n ≡ false
       → length a.names < place_limit → Step d b a (keep n)
   keep_added n p none-same q h =
@@ -148,13 +144,13 @@ module _ (d : Description) (b : Balance) (f : Follows d b start) (a : Asked) (w 
       record {
         holds =
             ap (λ (y : Reply). y.state) r
-            ∙ (λ i. record { balance = after b a.current; names = added_names n h i; kept = added_kept n h none-same i; count = counted i })
+            ∙ (λ i. record { balance = after b a.current; kept = added n h none-same i; count = counted i })
             ∙ ap (described b) (sym (kept_new a n q full));
         tells = ap said_in r ∙ sym (λ i. saying (refuse FifthName (not (q i) && full i) (Ok tt)) 0);
         well = subst⁻¹ Well (kept_new a n q full) (well_adding a n w h none-same);
       }
 
-  keep_refused_lem : (n : Name) → place_of a.names (length a.names) n ≡ None → among a.names n ≡ false
+  keep_refused_lem : (n : Name) → place_of (name_at a.names) (length a.names) n ≡ None → among a.names n ≡ false
       → place_limit ≤ length a.names → Step d b a (keep n)
   keep_refused_lem n p q h =
       let r = keep_fifth (described b a) n sound_described (place_same n ∙ p) h in
@@ -179,7 +175,6 @@ module _ (d : Description) (b : Balance) (f : Follows d b start) (a : Asked) (w 
             ∙ (λ i.
             record {
               balance = (held_balance k h ∙ ap (after b) (w.steady (name_at a.names k) n e)) i;
-              names = (described b a).names;
               kept = (described b a).kept;
               count = length a.names;
             })
@@ -201,7 +196,6 @@ module _ (d : Description) (b : Balance) (f : Follows d b start) (a : Asked) (w 
         holds = λ i.
             record {
               balance = sym (after_list b a.current c) i;
-              names = (described b a).names;
               kept = (described b a).kept;
               count = length a.names;
             };

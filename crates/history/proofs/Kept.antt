@@ -13,14 +13,14 @@ use Rattle.model.specs.declared.Refusal.TheVariants.{FifthName, NoSuchName}
 use Rattle.model.specs.Answers.{refuse}
 use Rattle.river.proofs.Firsts.{at_first, nothing_passed}
 use Rattle.planning.specs.declared.Name.{Name}
-use Rattle.planning.specs.Names.{place_limit, same_name, name_at, place_of}
+use Rattle.planning.specs.Names.{place_limit, same_name, place_of}
 use Rattle.planning.proofs.Naming.{same_sym, same_through}
-use Rattle.history.specs.Asked.{keep, back, Asked, nothing_asked, among, unless_refused, asking}
+use Rattle.history.specs.Asked.{keep, back, Asked, nothing_asked, name_at, among, unless_refused, asking}
 
 -- A name is found in a list, or it is at no place of it.
 pub data Sought (ms : List Name) (n : Name) : Type 0 where
-  found : (k : ℕ) → place_of ms (length ms) n ≡ Some k → k < length ms → same_name (name_at ms k) n ≡ true → among ms n ≡ true → Sought ms n
-  absent : place_of ms (length ms) n ≡ None → ((k : ℕ) → k < length ms → same_name (name_at ms k) n ≡ false) → among ms n ≡ false → Sought ms n
+  found : (k : ℕ) → place_of (name_at ms) (length ms) n ≡ Some k → k < length ms → same_name (name_at ms k) n ≡ true → among ms n ≡ true → Sought ms n
+  absent : place_of (name_at ms) (length ms) n ≡ None → ((k : ℕ) → k < length ms → same_name (name_at ms k) n ≡ false) → among ms n ≡ false → Sought ms n
 
 or_second : (a b : Bool) → b ≡ true → a || b ≡ true
 or_second true b e = refl
@@ -37,12 +37,12 @@ unfolding among
 none_among [] n f = refl
 none_among (m ∷ ms) n f = λ i. f 0 (omega arith) i || none_among ms n (λ k h. f (suc k) (omega arith)) i
 
-sought_by : (ms : List Name) (n : Name) (f : Option ℕ) → place_of ms (length ms) n ≡ f → Sought ms n
+sought_by : (ms : List Name) (n : Name) (f : Option ℕ) → place_of (name_at ms) (length ms) n ≡ f → Sought ms n
 sought_by ms n (Some k) e = let p = at_first _ (length ms) k e in found k e p.0 p.2 (at_among ms n k p.0 p.2)
 sought_by ms n None e = let p = nothing_passed _ (length ms) e in absent e p (none_among ms n p)
 
 pub sought : (ms : List Name) (n : Name) → Sought ms n
-sought ms n = sought_by ms n (place_of ms (length ms) n) refl
+sought ms n = sought_by ms n (place_of (name_at ms) (length ms) n) refl
 
 -- What was asked: at most four names are kept, no two of them the same, and names that are the same have the same list of calls.
 pub record Well (a : Asked) : Type 0 where

@@ -5,7 +5,6 @@ use mathlib.Core.Bool.{true}
 use mathlib.Core.List.{List, [], ◌∷◌}
 use Rattle.laws.proofs.Arrays.{filled_start, filled_table}
 use Rattle.model.specs.declared.Balance.{Balance}
-use Rattle.model.specs.Fresh.{fresh_balance}
 use Rattle.register.specs.Calls.{after}
 use Rattle.book.specs.Reading.{Description, read, reading, opened}
 use Rattle.conservation.specs.Demand3.{start, tallied, reported, Demand3}
@@ -13,11 +12,11 @@ use Rattle.conservation.specs.Replies.{Said}
 use Rattle.conservation.proofs.Following.{Follows, follows_start}
 use Rattle.conservation.proofs.Promise.{demand_3}
 use Rattle.planning.specs.declared.State.{State}
-use Rattle.planning.specs.Names.{place_limit, name_at}
-use Rattle.planning.specs.State.{empty_name, nothing_kept, sound_state}
+use Rattle.planning.specs.Names.{place_limit}
+use Rattle.planning.specs.State.{empty_kept, nothing_kept, sound_state}
 use Rattle.planning.specs.Calls.{opened_state}
-use Rattle.history.specs.Asked.{Request, Asked, nothing_asked, asking, history, telling, tellings}
-use Rattle.history.specs.Claim.{states_after, all_told, described, Conserved}
+use Rattle.history.specs.Asked.{Request, Asked, nothing_asked, name_at, asking, history, telling, tellings}
+use Rattle.history.specs.Claim.{states_after, all_told, kept_as, described, Conserved}
 use Rattle.history.proofs.Kept.{Well, well_start}
 use Rattle.history.proofs.Following.{held_balance, sound_described, step}
 
@@ -27,8 +26,7 @@ unfolding after
 start_described b = λ i.
     record {
       balance = b;
-      names = filled_table place_limit empty_name (name_at []) 0 _ (filled_start place_limit empty_name (name_at [])) i;
-      kept = filled_table place_limit fresh_balance (λ k. after b []) 0 _ (filled_start place_limit fresh_balance (λ k. after b [])) i;
+      kept = filled_table place_limit empty_kept (λ k. kept_as b nothing_asked (name_at [] k)) 0 _ (filled_start place_limit empty_kept _) i;
       count = 0;
     }
 

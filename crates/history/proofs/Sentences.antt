@@ -1,4 +1,4 @@
--- The sentences of document 02 [3], of what was asked. Assumes nothing.
+-- What is kept, what a return brings back, and which numbers repeat, of what was asked. Assumes nothing.
 use Rattle.std.specs.Prelude.{Ok, Err}
 use Prim.Native.Nat.{suc}
 use mathlib.Core.Path.{◌≡◌, refl, sym, ap, subst⁻¹, ◌∙◌}

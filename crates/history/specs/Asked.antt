@@ -1,6 +1,6 @@
--- What a list of requests comes to, by what they ask alone (document 02 [3]): "For someone who went back, the list of calls is the one up to
+-- What a list of requests comes to, by what they ask alone: "For someone who went back, the list of calls is the one up to
 -- the keeping, followed by those after the return." No reply and no balance is among the arguments. Assumes nothing.
-use Rattle.std.specs.Prelude.{Bool, true, false, cond, not, ◌&&◌, ◌||◌, List, [], ◌∷◌, ◌++◌, leb, length, Ok, Err}
+use Rattle.std.specs.Prelude.{ℕ, Bool, true, false, cond, not, ◌&&◌, ◌||◌, List, [], ◌∷◌, ◌++◌, leb, length, get_or, Ok, Err}
 use Rattle.model.specs.declared.Refusal.TheVariants.{FifthName, NoSuchName}
 use Rattle.model.specs.declared.Call.{Call}
 use Rattle.model.specs.Answers.{Answer, refuse}
@@ -26,6 +26,10 @@ pub record Asked : Type 0 where
 -- After opening nothing was asked, and nothing is kept.
 abbrev pub nothing_asked : Asked
 nothing_asked = record { current = []; names = []; line = λ n. [] }
+
+-- The name in place k. Past its end a list of names reads as a name of no bytes.
+abbrev pub name_at : List Name → ℕ → Name
+name_at names k = get_or names k (record { bytes = [] })
 
 -- A name is one of those under which something is kept.
 unfoldable pub among : List Name → Name → Bool

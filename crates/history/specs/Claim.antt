@@ -1,17 +1,18 @@
--- What the program holds and tells after a list of requests, and what it is to hold (document 02 [3]). Assumes nothing.
+-- What the program holds and tells after a list of requests, and what it is to hold. Assumes nothing.
 use Rattle.std.specs.Prelude.{ℕ, ◌<◌, List, [], ◌∷◌, length}
 use Rattle.laws.specs.Table.{table}
 use Rattle.model.specs.declared.Balance.{Balance}
-use Rattle.model.specs.Fresh.{fresh_balance}
 use Rattle.register.specs.Calls.{call_reply, after}
 use Rattle.book.specs.Reading.{Description}
 use Rattle.conservation.specs.Demand3.{start, tallied, reported, Demand3}
 use Rattle.conservation.specs.Replies.{Said}
+use Rattle.planning.specs.declared.Name.{Name}
+use Rattle.planning.specs.declared.Kept.{Kept}
 use Rattle.planning.specs.declared.State.{State}
-use Rattle.planning.specs.Names.{place_limit, name_at}
-use Rattle.planning.specs.State.{empty_name, balance_at}
+use Rattle.planning.specs.Names.{place_limit}
+use Rattle.planning.specs.State.{empty_kept, balance_at}
 use Rattle.planning.specs.Calls.{with_current, keep_reply, back_reply}
-use Rattle.history.specs.Asked.{Request, ask, keep, back, Asked}
+use Rattle.history.specs.Asked.{Request, ask, keep, back, Asked, name_at}
 
 -- The program's state after a request. An ordinary call takes the current balance alone, and the balance that it returns is the current one.
 abbrev pub state_after : State → Request → State
@@ -34,14 +35,17 @@ unfoldable pub all_told : State → List Request → List Said
 all_told s [] = []
 all_told s (r ∷ rs) = told s r ∷ all_told (state_after s r) rs
 
+-- What is kept under a name, of a book opened as balance b: the balance after the list of its keeping.
+abbrev pub kept_as : Balance → Asked → Name → Kept
+kept_as b a n = record { name = n; balance = after b (a.line n) }
+
 -- The state that what was asked describes, of a book opened as balance b: the current balance is the one after the list of calls, and under
 -- each name, in order, stands the balance after the list of its keeping. The other places are empty.
 abbrev pub described : Balance → Asked → State
 described b a =
     record {
       balance = after b a.current;
-      names = table place_limit empty_name (length a.names) (name_at a.names);
-      kept = table place_limit fresh_balance (length a.names) (λ k. after b (a.line (name_at a.names k)));
+      kept = table place_limit empty_kept (length a.names) (λ k. kept_as b a (name_at a.names k));
       count = length a.names;
     }
 

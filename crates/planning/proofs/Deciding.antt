@@ -1,37 +1,27 @@
 -- What is decided on keeping and going back, by the tests that are made; and the replies by what was decided. Assumes nothing.
-use Rattle.std.specs.Prelude.{Option, Some, None}
-use Prim.Native.Nat.{ℕ, ◌≤◌, ◌<◌}
-use mathlib.Core.Path.{◌≡◌, refl}
+use Rattle.std.specs.Prelude.{Option, Some, None, Ok, Err}
+use Rattle.std.specs.Option.{ok_or}
+use Prim.Native.Nat.{ℕ, ◌<◌}
+use mathlib.Core.Path.{◌≡◌, refl, ap}
 use mathlib.Core.Bool.{Bool, true, false}
 use lib.Dec.{leb}
 use native.Mathlib.Omega.{arith}
-use borrow.Author.Tests.{le-leb, lt-leb, leb-false}
+use borrow.Author.Tests.{leb-false}
 use Rattle.laws.proofs.Cases.{by_bool}
+use Rattle.model.specs.declared.Refusal.TheVariants.{FifthName, NoSuchName}
 use Rattle.planning.specs.declared.Name.{Name}
 use Rattle.planning.specs.declared.State.{State}
-use Rattle.planning.specs.declared.Keeping.TheVariants.{Refused as NotKept, Again, Anew}
-use Rattle.planning.specs.declared.Returning.TheVariants.{Refused as NoReturn, To}
 use Rattle.planning.specs.Names.{place_limit}
 use Rattle.planning.specs.State.{sound_state}
 use Rattle.planning.specs.Calls.{place_in, keep_reply, back_reply}
-use Rattle.planning.specs.Decision.{keep_decision, back_decision, keep_as, back_as}
-use Rattle.model.specs.declared.Refusal.TheVariants.{FifthName, NoSuchName}
+use Rattle.planning.specs.Decision.{sought, keep_decision, back_decision, keep_as, back_as}
 use Rattle.planning.proofs.Replying.{standing, keep_by, back_by, place_within}
 
-pub keep_found : (test : Bool) (f : Option ℕ) (n k : ℕ) → test ≡ true → f ≡ Some k → Again k ≡ keep_decision test f n
-keep_found test f n k e p = rw (p, e)
-
-pub keep_full : (test : Bool) (f : Option ℕ) (n : ℕ) → test ≡ true → f ≡ None → place_limit ≤ n → NotKept FifthName ≡ keep_decision test f n
-keep_full test f n e p h = rw (p, e, le-leb place_limit n h)
-
-pub keep_free : (test : Bool) (f : Option ℕ) (n : ℕ) → test ≡ true → f ≡ None → n < place_limit → Anew ≡ keep_decision test f n
-keep_free test f n e p h = rw (p, e, lt-leb place_limit n h)
-
-pub back_found : (test : Bool) (f : Option ℕ) (k : ℕ) → test ≡ true → f ≡ Some k → To k ≡ back_decision test f
-back_found test f k e p = rw (p, e)
-
-pub back_missing : (test : Bool) (f : Option ℕ) → test ≡ true → f ≡ None → NoReturn NoSuchName ≡ back_decision test f
-back_missing test f e p = rw (p, e)
+-- Going back, by what the search gave.
+pub back_place : (test : Bool) (f g : Option ℕ) → Ok g ≡ sought test f → ok_or g NoSuchName ≡ back_decision test f
+back_place true (Some j) g e = let p : g ≡ Some j = cc in ap (λ (x : Option ℕ). ok_or x NoSuchName) p
+back_place true None g e = let p : g ≡ None = cc in ap (λ (x : Option ℕ). ok_or x NoSuchName) p
+back_place false f g e = cc
 
 -- The replies are those of the decisions.
 keep_as_decided : (s : State) (n : Name) (test : Bool) (f : Option ℕ) (count : ℕ)
@@ -54,25 +44,25 @@ pub back_decided : (s : State) (n : Name) → back_reply s n ≡ back_as s (back
 back_decided s n = back_as_decided s (sound_state s) (place_in s n)
 
 -- What a decision says of the test and of the place.
-again_of : (test : Bool) (f : Option ℕ) (n k : ℕ) → keep_decision test f n ≡ Again k → (test ≡ true) × (f ≡ Some k)
+again_of : (test : Bool) (f : Option ℕ) (n k : ℕ) → keep_decision test f n ≡ Ok (Some k) → (test ≡ true) × (f ≡ Some k)
 again_of true (Some j) n k e = (refl, cc)
 again_of false (Some j) n k e = cc
 again_of true None n k e =
     by_bool (leb place_limit n)
-    (λ q. let z : NotKept FifthName ≡ Again k = rw q at e in cc)
-    (λ q. let z : Anew ≡ Again k = rw q at e in cc)
+    (λ q. let z : Err FifthName ≡ Ok (Some k) = rw q at e in cc)
+    (λ q. let z : Ok None ≡ Ok (Some k) = rw q at e in cc)
 again_of false None n k e = cc
 
-anew_of : (test : Bool) (f : Option ℕ) (n : ℕ) → keep_decision test f n ≡ Anew → n < place_limit
+anew_of : (test : Bool) (f : Option ℕ) (n : ℕ) → keep_decision test f n ≡ Ok None → n < place_limit
 anew_of true (Some j) n e = cc
 anew_of false (Some j) n e = cc
 anew_of true None n e =
     by_bool (leb place_limit n)
-    (λ q. let z : NotKept FifthName ≡ Anew = rw q at e in cc)
+    (λ q. let z : Err FifthName ≡ Ok None = rw q at e in cc)
     (λ q. leb-false _ _ q)
 anew_of false None n e = cc
 
-to_of : (test : Bool) (f : Option ℕ) (k : ℕ) → back_decision test f ≡ To k → (test ≡ true) × (f ≡ Some k)
+to_of : (test : Bool) (f : Option ℕ) (k : ℕ) → back_decision test f ≡ Ok k → (test ≡ true) × (f ≡ Some k)
 to_of true (Some j) k e = (refl, cc)
 to_of false (Some j) k e = cc
 to_of true None k e = cc
@@ -83,15 +73,15 @@ module _ (s : State) (n : Name) where
   found_within : (k : ℕ) → (sound_state s ≡ true) × (place_in s n ≡ Some k) → k < place_limit
   found_within k p = omega (arith, (standing s p.0).few, place_within s n k p.1)
 
-  pub again_within : (k : ℕ) → keep_decision (sound_state s) (place_in s n) s.count ≡ Again k → k < place_limit
+  pub again_within : (k : ℕ) → keep_decision (sound_state s) (place_in s n) s.count ≡ Ok (Some k) → k < place_limit
   again_within k e = found_within k (again_of (sound_state s) (place_in s n) s.count k e)
 
-  pub anew_within : keep_decision (sound_state s) (place_in s n) s.count ≡ Anew → s.count < place_limit
+  pub anew_within : keep_decision (sound_state s) (place_in s n) s.count ≡ Ok None → s.count < place_limit
   anew_within e = anew_of (sound_state s) (place_in s n) s.count e
 
-  pub to_within : (k : ℕ) → back_decision (sound_state s) (place_in s n) ≡ To k → k < place_limit
+  pub to_within : (k : ℕ) → back_decision (sound_state s) (place_in s n) ≡ Ok k → k < place_limit
   to_within k e = found_within k (to_of (sound_state s) (place_in s n) k e)
 
   -- Going back is accepted of a sound state only.
-  pub to_sound : (k : ℕ) → back_decision (sound_state s) (place_in s n) ≡ To k → sound_state s ≡ true
+  pub to_sound : (k : ℕ) → back_decision (sound_state s) (place_in s n) ≡ Ok k → sound_state s ≡ true
   to_sound k e = (to_of (sound_state s) (place_in s n) k e).0

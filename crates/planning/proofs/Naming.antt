@@ -1,9 +1,10 @@
 -- Names: when two are the same, and which are kept. Assumes nothing.
-use Rattle.std.specs.Prelude.{Some, None}
+use Rattle.std.specs.Prelude.{Option, Some, None}
+use Rattle.std.specs.Option.{is_some}
 use Prim.Native.Nat.{ℕ}
 use mathlib.Core.Path.{◌≡◌, sym, ap, ◌∙◌}
 use mathlib.Core.Logic.{◌↔◌}
-use mathlib.Core.Bool.{true, false, not, true≢false}
+use mathlib.Core.Bool.{Bool, true, false, not, true≢false}
 use mathlib.Core.List.{List}
 use lib.Dec.{eqb}
 use lib.ListN.{length, get_or}
@@ -54,8 +55,15 @@ same_each a b p q =
     (λ g. e ∙ sym g))
 
 -- No place before one has a name exactly where the search of the name among them finds nothing.
-pub none_before : (names : ℕ → Name) (k : ℕ) (n : Name) → place_of names k n ≡ None → every k (λ j. not (same_name (names j) n)) ≡ true
+none_before : (names : ℕ → Name) (k : ℕ) (n : Name) → place_of names k n ≡ None → every k (λ j. not (same_name (names j) n)) ≡ true
 none_before names k n e = each_every _ k (λ j h. ap not (nothing_passed _ k e j h))
 
-pub some_before : (names : ℕ → Name) (k i : ℕ) (n : Name) → place_of names k n ≡ Some i → every k (λ j. not (same_name (names j) n)) ≡ false
+some_before : (names : ℕ → Name) (k i : ℕ) (n : Name) → place_of names k n ≡ Some i → every k (λ j. not (same_name (names j) n)) ≡ false
 some_before names k i n e = let f = at_first _ k i e in every_fails _ k i f.0 (ap not f.2)
+
+pub new_by : (names : ℕ → Name) (k : ℕ) (n : Name) (f : Option ℕ) (new : Bool) → place_of names k n ≡ f → is_some f ≡ not new
+    → new ≡ every k (λ j. not (same_name (names j) n))
+new_by names k n (Some i) true e p = cc
+new_by names k n (Some i) false e p = sym (some_before names k i n e)
+new_by names k n None true e p = sym (none_before names k n e)
+new_by names k n None false e p = cc

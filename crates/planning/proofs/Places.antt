@@ -9,6 +9,7 @@ use lib.Seq.{get_or-take, length-take-le, take-length}
 use native.Mathlib.Omega.{arith}
 use native.Mathlib.Numerals.{add-one}
 use borrow.Author.Tests.{ltb-false}
+use Rattle.std.specs.declared.option.Option.{Option}
 use Rattle.std.specs.declared.option.Option.TheVariants.{Some, None}
 use Rattle.std.specs.List.{list_all, position, position_or_len, range_with_len}
 use Rattle.std.proofs.lemmas.List.Folds.{list_all_more}
@@ -29,16 +30,23 @@ use Rattle.planning.specs.State.{no_kept, name_at, kept_sound}
 
 module _ {X : Type 0} (p : X → Bool) (xs : List X) (d : X) where
   -- The position of an element in a list is the first of its places.
-  pub position_at : (i : ℕ) → position p xs ≡ Some i → first (length xs) (λ k. p (get_or xs k d)) ≡ Some i
+  position_at : (i : ℕ) → position p xs ≡ Some i → first (length xs) (λ k. p (get_or xs k d)) ≡ Some i
   position_at i e = let f = position-Some p xs i d e in first_at _ (length xs) i f.0 f.2 f.1
 
-  pub position_nothing : position p xs ≡ None → first (length xs) (λ k. p (get_or xs k d)) ≡ None
+  position_nothing : position p xs ≡ None → first (length xs) (λ k. p (get_or xs k d)) ≡ None
   position_nothing e =
       by_bool (ltb (position_or_len p xs) (length xs))
       (λ q. let z : Some (position_or_len p xs) ≡ None = rw q at e in cc)
       (λ q.
       let long : length xs ≤ position_or_len p xs = ltb-false _ _ q in
       first_nothing _ (length xs) (λ k h. fails_before_first p xs k d (omega arith)))
+
+  position_by : (f : Option ℕ) → position p xs ≡ f → position p xs ≡ first (length xs) (λ k. p (get_or xs k d))
+  position_by (Some i) e = e ∙ sym (position_at i e)
+  position_by None e = e ∙ sym (position_nothing e)
+
+  pub position_first : position p xs ≡ first (length xs) (λ k. p (get_or xs k d))
+  position_first = position_by (position p xs) refl
 
   -- A test holds of each element exactly where it holds at every place.
   taken_every : (n : ℕ) → n ≤ length xs → list_all p (take n xs) ≡ every n (λ k. p (get_or xs k d))

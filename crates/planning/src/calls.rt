@@ -5,7 +5,7 @@ ghost use Rattle.planning.specs.Calls as replies;
 
 use crate::decision::{decide_back, decide_keep};
 use crate::test::sound;
-use crate::{Keeping, Kept, Name, Reply, Returning, State};
+use crate::{Kept, Name, Reply, State};
 use model::Answer;
 
 // Keeps the current balance of a state that was tested for 0 under a name: in the name's place, or under a new name in the next one.
@@ -15,21 +15,19 @@ pub fn keep_tested(s: &mut State, sound: bool, name: Name) -> Answer
     ensures answer { result ≡ (replies.keep_reply s.old name).answer }
     ensures state { s.new ≡ (replies.keep_reply s.old name).state }
 {
-    match decide_keep(s, sound, name) {
-        Keeping::Refused { code } => Answer::Refused(code),
-        Keeping::Again { place } => {
+    match decide_keep(s, sound, name)? {
+        Some(place) => {
             s.kept[place].balance = s.balance;
-            Answer::Accepted
         }
-        Keeping::Anew => {
+        None => {
             s.kept[s.count] = Kept {
                 name,
                 balance: s.balance,
             };
             s.count += 1;
-            Answer::Accepted
         }
     }
+    Ok(())
 }
 
 // Goes back, in a state that was tested for 0, to what is kept under a name: that balance becomes the current one. `sound` says what the
@@ -39,13 +37,9 @@ pub fn back_tested(s: &mut State, sound: bool, name: Name) -> Answer
     ensures answer { result ≡ (replies.back_reply s.old name).answer }
     ensures state { s.new ≡ (replies.back_reply s.old name).state }
 {
-    match decide_back(s, sound, name) {
-        Returning::Refused { code } => Answer::Refused(code),
-        Returning::To { place } => {
-            s.balance = s.kept[place].balance;
-            Answer::Accepted
-        }
-    }
+    let place = decide_back(s, sound, name)?;
+    s.balance = s.kept[place].balance;
+    Ok(())
 }
 
 // Keeps the current balance under a name.

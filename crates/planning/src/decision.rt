@@ -5,33 +5,37 @@ ghost use Rattle.planning.specs.Calls.{place_in};
 ghost use Rattle.planning.specs.Decision as decisions;
 
 use crate::names::place_of;
-use crate::{Keeping, Name, Returning, State};
+use crate::{Name, State};
+use model::Refusal;
 
-// Keeping: refused with 0 or 22, in the place that has the name, or in the next one. `sound` says what the test for 0 gave.
-pub fn decide_keep(s: &State, sound: bool, name: Name) -> Keeping
+// The place that has a name in a state that was tested for 0, if one has it. `sound` says what the test gave.
+fn sought(s: &State, sound: bool, name: Name) -> Result<Option<usize>, Refusal>
     requires { sound ≡ true → s.now.count ≤ place_limit }
-    ensures { result ≡ decisions.keep_decision sound (place_in s.now name) s.now.count }
+    ensures { result ≡ decisions.sought sound (place_in s.now name) }
 {
-    if !sound {
-        return Keeping::Refused { code: 0 };
-    }
-    match place_of(&s.kept[..s.count], name) {
-        Some(place) => Keeping::Again { place },
-        None if s.count < State::PLACES => Keeping::Anew,
-        None => Keeping::Refused { code: 22 },
+    if sound {
+        Ok(place_of(&s.kept[..s.count], name))
+    } else {
+        Err(Refusal::Unsound)
     }
 }
 
-// Going back: refused with 0 or 23, or to the place that has the name. `sound` says what the test for 0 gave.
-pub fn decide_back(s: &State, sound: bool, name: Name) -> Returning
+// Keeping: the place that has the name, or `None` for a new name, which takes the next place. `sound` says what the test for 0 gave.
+pub fn decide_keep(s: &State, sound: bool, name: Name) -> Result<Option<usize>, Refusal>
+    requires { sound ≡ true → s.now.count ≤ place_limit }
+    ensures { result ≡ decisions.keep_decision sound (place_in s.now name) s.now.count }
+{
+    match sought(s, sound, name)? {
+        Some(place) => Ok(Some(place)),
+        None if s.count < State::PLACES => Ok(None),
+        None => Err(Refusal::FifthName),
+    }
+}
+
+// Going back: the place that has the name. `sound` says what the test for 0 gave.
+pub fn decide_back(s: &State, sound: bool, name: Name) -> Result<usize, Refusal>
     requires { sound ≡ true → s.now.count ≤ place_limit }
     ensures { result ≡ decisions.back_decision sound (place_in s.now name) }
 {
-    if !sound {
-        return Returning::Refused { code: 0 };
-    }
-    match place_of(&s.kept[..s.count], name) {
-        Some(place) => Returning::To { place },
-        None => Returning::Refused { code: 23 },
-    }
+    sought(s, sound, name)?.ok_or(Refusal::NoSuchName)
 }

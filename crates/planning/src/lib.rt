@@ -45,21 +45,6 @@ pub struct Reply {
     pub state: State,
 }
 
-// What keeping comes to: refused, again in the place of a used name, or anew in the next place.
-#[derive(Clone, Copy)]
-pub enum Keeping {
-    Refused { code: u8 },
-    Again { place: usize },
-    Anew,
-}
-
-// What going back comes to: refused, or to the place of a name.
-#[derive(Clone, Copy)]
-pub enum Returning {
-    Refused { code: u8 },
-    To { place: usize },
-}
-
 // The reply of opening a book as a state: accepted, with the offset where the description ends and the state in which nothing is kept, or
 // refused under a number, with its place and the fresh state.
 #[derive(Clone, Copy)]

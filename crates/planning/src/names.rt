@@ -10,10 +10,7 @@ use crate::{Kept, Name};
 pub(crate) fn place_of(kept: &[Kept], name: Name) -> Option<usize>
     ensures { result ≡ named.place_of (name_at kept.now) (length kept.now) name }
 {
-    match kept.iter().position(|held| held.name == name) {
-        Some(place) => Some(place),
-        None => None,
-    }
+    kept.iter().position(|held| held.name == name)
 }
 
 // No place before one has its name.
@@ -21,7 +18,7 @@ fn is_new(kept: &[Kept], place: usize) -> bool
     requires { place < length kept.now }
     ensures { result ≡ every place (λ k. not (named.same_name (name_at kept.now k) (name_at kept.now place))) }
 {
-    matches!(place_of(&kept[..place], kept[place].name), None)
+    place_of(&kept[..place], kept[place].name).is_none()
 }
 
 // No two of some places have the same name.

@@ -1,31 +1,9 @@
--- Laws of calls made in turn, and the state of a book after its calls. Assumes nothing.
-use Rattle.std.specs.Prelude.{Ok, Err}
+-- Laws of calls made in turn. Assumes nothing.
 use Prim.Native.Nat.{ℕ, suc, ◌+◌, ◌-◌, ◌≤◌, ◌<◌}
-use mathlib.Core.Path.{◌≡◌, sym, ap, ◌∙◌}
-use mathlib.Core.List.{List}
+use mathlib.Core.Path.{◌≡◌, ap}
 use native.Mathlib.Omega.{arith}
-use Rattle.model.specs.Answers.{Answer}
 use Rattle.planning.specs.declared.State.{State}
-use Rattle.planning.specs.declared.Opened.{Opened}
-use Rattle.planning.specs.Calls.{opened_state}
-use Rattle.planning_times.specs.Timed.{accepted, run_on, after_calls, Turn, states, counted}
-
-pub accepted_within : (a : Answer) → accepted a ≤ 1
-accepted_within (Ok u) = omega arith
-accepted_within (Err n) = omega arith
-
--- The state of a book after its calls, by the answer of its opening.
-pub run_as : (book : List ℕ) (o : Opened) (x : Answer) → o ≡ opened_state book → o.answer ≡ x → run_on book x o.place o.state ≡ after_calls book
-run_as book o x e a =
-    sym (ap (λ (y : Answer). run_on book y o.place o.state) a)
-    ∙ ap (λ (y : Opened). run_on book y.answer y.place y.state) e
-
--- All calls are left, the first of those that are left, and none left.
-pub states_start : (f : State → ℕ → Turn) (times : ℕ) (s : State) → states f (times - 0) 0 s ≡ states f times 0 s
-states_start f times s = let e : times - 0 ≡ times = omega arith in ap (λ (n : ℕ). states f n 0 s) e
-
-pub counted_start : (f : State → ℕ → Turn) (times : ℕ) (s : State) → 0 + counted f (times - 0) 0 s ≡ counted f times 0 s
-counted_start f times s = let e : times - 0 ≡ times = omega arith in omega (arith, ap (λ (n : ℕ). counted f n 0 s) e)
+use Rattle.planning_times.specs.Timed.{Turn, states, counted}
 
 module _ (f : State → ℕ → Turn) (times i : ℕ) (s : State) where
   pub states_on : i < times → states f (times - i) i s ≡ states f (times - (i + 1)) (i + 1) (f s i).next

@@ -1,5 +1,6 @@
 -- The state of a book in which four balances are kept, and how many of many calls on it are counted. Assumes nothing.
-use Rattle.std.specs.Prelude.{ℕ, zero, suc, ◌+◌, ◌-◌, ◌%◌, List, set, replicate, Ok, Err}
+use Rattle.std.specs.Prelude.{◌≡◌, ℕ, zero, suc, ◌+◌, ◌-◌, ◌%◌, ◌^◌, ◌<◌, ◌≤◌, List, set, replicate, Ok, Err}
+use Rattle.std.specs.Borrow.{MutBor}
 use Rattle.model.specs.Answers.{Answer}
 use Rattle.model.specs.declared.Call.TheVariants.{Cancel}
 use Rattle.register.specs.Calls.{call_reply}
@@ -44,6 +45,12 @@ ask_turn s i =
       next = with_current s (call_reply s.balance (Cancel 0)).balance;
       counts = 1 - accepted (call_reply s.balance (Cancel 0)).answer;
     }
+
+-- Wherever a call may return, what it leaves and what it counts are as `turn` says, and it counts at most 1.
+pub record ComesTo (post : MutBor State → ℕ → ℕ → MutBor State → Type 0) (turn : State → ℕ → Turn) : Type 0 where
+  pub next : (s t : MutBor State) (i counts : ℕ) → i < 2 ^ 64 → post s i counts t → t.now ≡ (turn s.now i).next
+  pub counts : (s t : MutBor State) (i counts : ℕ) → i < 2 ^ 64 → post s i counts t → counts ≡ (turn s.now i).counts
+  pub one : (s : State) (i : ℕ) → (turn s i).counts ≤ 1
 
 -- The state after so many calls from turn i on, and how many of them are counted.
 unfoldable pub states : (State → ℕ → Turn) → ℕ → ℕ → State → State

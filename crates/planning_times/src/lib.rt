@@ -2,7 +2,9 @@
 // `planning_times_c` exports these functions to C.
 #![tactic(auto)]
 
-ghost use Rattle.std.specs.Prelude.{◌≡◌};
+ghost use Rattle.std.specs.Prelude.{◌≡◌, ℕ};
+ghost use Rattle.planning.specs.declared.State.{State};
+ghost use Rattle.planning_times.specs.Timed.{Turn};
 ghost use Rattle.planning_times.specs.Timed as timed;
 
 use model::{Answer, Call};
@@ -21,10 +23,7 @@ fn name_in_turn(i: u64) -> Name
 fn accepted(answer: Answer) -> u64
     ensures { result ≡ timed.accepted answer }
 {
-    match answer {
-        Answer::Accepted => 1,
-        Answer::Refused(_) => 0,
-    }
+    u64::from(answer.is_ok())
 }
 
 // The state of a book after its calls; of a refused description the fresh one.
@@ -32,33 +31,65 @@ fn after_calls(book: &[u8]) -> State
     ensures { result ≡ timed.after_calls book.now }
 {
     let o = planning::open_book(book);
-    let answer = o.answer;
-    let place = o.place;
     let mut s = o.state;
-    match answer {
-        Answer::Accepted => {
-            let opened = s.balance;
-            let ran = calls::run(book, place, opened);
-            let balance = ran.balance;
-            s.balance = balance;
-            s
-        }
-        Answer::Refused(_) => s,
+    if o.answer.is_ok() {
+        s.balance = calls::run(book, o.place, s.balance).balance;
     }
+    s
 }
 
-// The state after so many keepings under the names in turn.
-fn kept(start: State, times: u64) -> State
-    ensures { result ≡ timed.states timed.keep_turn times 0 start }
+// Keeps under the name that is in turn, and counts 1 if that is accepted.
+fn keep_in_turn(s: &mut State, i: u64) -> u64
+    ensures next { s.new ≡ (timed.keep_turn s.old i).next }
+    ensures counts { result ≡ (timed.keep_turn s.old i).counts }
 {
-    let mut s = start;
-    let mut i = 0;
-    while i < times {
-        let r = planning::keep(s, name_in_turn(i));
-        let next = r.state;
-        s = next;
-        i += 1;
+    let r = planning::keep(*s, name_in_turn(i));
+    *s = r.state;
+    accepted(r.answer)
+}
+
+// Goes back to the name that is in turn, and counts 1 if that is accepted.
+fn back_in_turn(s: &mut State, i: u64) -> u64
+    ensures next { s.new ≡ (timed.back_turn s.old i).next }
+    ensures counts { result ≡ (timed.back_turn s.old i).counts }
+{
+    let r = planning::back(*s, name_in_turn(i));
+    *s = r.state;
+    accepted(r.answer)
+}
+
+// Asks the current balance alone to cancel number 0, and counts 1 if that is refused.
+fn ask_in_turn(s: &mut State, i: u64) -> u64
+    ensures next { s.new ≡ (timed.ask_turn s.old i).next }
+    ensures counts { result ≡ (timed.ask_turn s.old i).counts }
+{
+    let r = register::ask(s.balance, Call::Cancel { number: 0 });
+    s.balance = r.balance;
+    1 - accepted(r.answer)
+}
+
+// So many calls, each in its turn on the state that the one before left: how many of them are counted. The ghost value says what a call
+// comes to.
+fn in_turn<F: Fn(&mut State, u64) -> u64>(s: &mut State, times: u64, call: F) -> u64
+    ghost turn: { State → ℕ → Turn }
+    requires callable { F.IsAlwaysCallable call }
+    requires comes { timed.ComesTo (F.post call) turn }
+    ensures state { s.new ≡ timed.states turn times 0 s.old }
+    ensures counts { result ≡ timed.counted turn times 0 s.old }
+{
+    let mut counts = 0;
+    for i in 0..times {
+        counts += call(s, i);
     }
+    counts
+}
+
+// The state of a book after its calls with that balance kept under the four names.
+fn filled(book: &[u8]) -> State
+    ensures { result ≡ timed.filled book.now }
+{
+    let mut s = after_calls(book);
+    in_turn(&mut s, 4, keep_in_turn);
     s
 }
 
@@ -66,53 +97,19 @@ fn kept(start: State, times: u64) -> State
 pub fn hasheqro_rekeep(book: &[u8], times: u64) -> u64
     ensures { result ≡ timed.counted timed.keep_turn times 0 (timed.filled book.now) }
 {
-    let mut s = kept(after_calls(book), 4);
-    let mut count = 0;
-    let mut i = 0;
-    while i < times {
-        let r = planning::keep(s, name_in_turn(i));
-        let answer = r.answer;
-        let next = r.state;
-        s = next;
-        count += accepted(answer);
-        i += 1;
-    }
-    count
+    in_turn(&mut filled(book), times, keep_in_turn)
 }
 
 // How many of so many returns to the names in turn are accepted.
 pub fn hasheqro_reback(book: &[u8], times: u64) -> u64
     ensures { result ≡ timed.counted timed.back_turn times 0 (timed.filled book.now) }
 {
-    let mut s = kept(after_calls(book), 4);
-    let mut count = 0;
-    let mut i = 0;
-    while i < times {
-        let r = planning::back(s, name_in_turn(i));
-        let answer = r.answer;
-        let next = r.state;
-        s = next;
-        count += accepted(answer);
-        i += 1;
-    }
-    count
+    in_turn(&mut filled(book), times, back_in_turn)
 }
 
 // How many of so many cancellations of number 0, each asked of the current balance alone, are refused.
 pub fn hasheqro_reask(book: &[u8], times: u64) -> u64
     ensures { result ≡ timed.counted timed.ask_turn times 0 (timed.filled book.now) }
 {
-    let mut s = kept(after_calls(book), 4);
-    let mut count = 0;
-    let mut i = 0;
-    while i < times {
-        let current = s.balance;
-        let r = register::ask(current, Call::Cancel { number: 0 });
-        let answer = r.answer;
-        let balance = r.balance;
-        s.balance = balance;
-        count += 1 - accepted(answer);
-        i += 1;
-    }
-    count
+    in_turn(&mut filled(book), times, ask_in_turn)
 }

@@ -1,6 +1,8 @@
 -- The records of a journal after its description: the calls of a book, KP (keep under a name) and GB (go back to a name), the name eight
 -- bytes. Assumes nothing.
-use Rattle.std.specs.Prelude.{ℕ, ◌+◌, ◌-◌, cond, List, ltb, length, take, drop}
+use Rattle.std.specs.Prelude.{ℕ, ◌+◌, ◌-◌, cond, List, ltb, length, take, drop, Option, Some, None}
+use Rattle.model.specs.declared.Refusal.{Refusal}
+use Rattle.model.specs.declared.Refusal.TheVariants.{Short}
 use Rattle.record.specs.declared.CallAt.{CallAt}
 use Rattle.record.specs.declared.CallAt.TheVariants.{End as noCall, Fails as failing, Asks}
 use Rattle.record.specs.Bytes.{bits8}
@@ -9,17 +11,16 @@ use Rattle.record.specs.Calls.{call_at}
 use Rattle.planning.specs.declared.Name.{Name}
 use Rattle.planning.specs.Names.{name_length}
 use Rattle.requests.specs.declared.OwnMark.{OwnMark}
-use Rattle.requests.specs.declared.OwnMark.TheVariants.{Kp, Gb, None}
+use Rattle.requests.specs.declared.OwnMark.TheVariants.{Kp, Gb}
 use Rattle.requests.specs.declared.RecordAt.{RecordAt}
-use Rattle.model.specs.declared.Refusal.TheVariants.{Short}
 use Rattle.requests.specs.declared.RecordAt.TheVariants.{End, Fails, Calls, Keeps, Returns}
 
 -- The marks of a journal alone, in ASCII: KP, GB.
-abbrev pub own_mark : ℕ → ℕ → OwnMark
-own_mark a b = cond (spells a b 75 80) Kp (cond (spells a b 71 66) Gb None)
+abbrev pub own_mark : ℕ → ℕ → Option OwnMark
+own_mark a b = cond (spells a b 75 80) (Some Kp) (cond (spells a b 71 66) (Some Gb) None)
 
 -- The mark of a journal alone at an offset: two bytes that are one.
-abbrev pub own_at : List ℕ → ℕ → OwnMark
+abbrev pub own_at : List ℕ → ℕ → Option OwnMark
 own_at s at = cond (ltb (length s - at) 2) None (own_mark (bits8 s at) (bits8 s (at + 1)))
 
 -- The name at an offset: the eight bytes from there on.
@@ -31,18 +32,18 @@ abbrev pub whole_record : List ℕ → ℕ → ℕ → (ℕ → RecordAt) → Re
 whole_record s at size go = cond (ltb (length s - at) size) (Fails Short) (go (at + size))
 
 -- KP and GB have ten bytes. Any other record fails as the calls of a book say.
-abbrev pub own_marked : OwnMark → List ℕ → ℕ → ℕ → RecordAt
-own_marked Kp s at n = whole_record s at 10 (λ to. Keeps to)
-own_marked Gb s at n = whole_record s at 10 (λ to. Returns to)
-own_marked None s at n = Fails n
+abbrev pub own_marked : Option OwnMark → List ℕ → ℕ → Refusal → RecordAt
+own_marked (Some Kp) s at r = whole_record s at 10 (λ to. Keeps to)
+own_marked (Some Gb) s at r = whole_record s at 10 (λ to. Returns to)
+own_marked None s at r = Fails r
 
-abbrev pub own_record : List ℕ → ℕ → ℕ → RecordAt
-own_record s at n = own_marked (own_at s at) s at n
+abbrev pub own_record : List ℕ → ℕ → Refusal → RecordAt
+own_record s at r = own_marked (own_at s at) s at r
 
 -- What stands at an offset after the description: a call of a book, or a record that those calls do not know.
 abbrev pub besides : CallAt → List ℕ → ℕ → RecordAt
 besides noCall s at = End
-besides (failing n) s at = own_record s at n
+besides (failing r) s at = own_record s at r
 besides (Asks c to) s at = Calls c to
 
 unfoldable pub record_at : List ℕ → ℕ → RecordAt

@@ -1,5 +1,6 @@
--- Calls, keepings and returns as one, and the state after a list of them (document 02 [3]). Assumes nothing.
+-- Calls, keepings and returns as one, and the state after a list of them. Assumes nothing.
 use Rattle.std.specs.Prelude.{ℕ, zero, suc, ◌+◌, List, [], ◌∷◌, length}
+use Rattle.model.specs.declared.Refusal.{Refusal}
 use Rattle.model.specs.declared.Call.{Call}
 use Rattle.register.specs.Calls.{call_reply}
 use Rattle.planning.specs.declared.Name.{Name}
@@ -26,16 +27,16 @@ unfoldable pub states_after : State → List Request → State
 states_after s [] = s
 states_after s (r ∷ rs) = states_after (state_after s r) rs
 
--- What a journal asks at an offset after its description: nothing more, a record that fails with 1 or 2, or a request and the offset of
+-- What a journal asks at an offset after its description: nothing more, a record that is short or unknown, or a request and the offset of
 -- the next record.
 pub data Asking : Type 0 where
   ends : Asking
-  fails : ℕ → Asking
+  fails : Refusal → Asking
   asks : Request → ℕ → Asking
 
 abbrev pub asking : RecordAt → List ℕ → ℕ → Asking
 asking End s at = ends
-asking (Fails n) s at = fails n
+asking (Fails r) s at = fails r
 asking (Calls c to) s at = asks (ask c) to
 asking (Keeps to) s at = asks (keep (name_at s (at + 2))) to
 asking (Returns to) s at = asks (back (name_at s (at + 2))) to

@@ -3,22 +3,22 @@
 
 mod records;
 
+use model::Refusal;
 pub use records::{name_at, own_at, record_at};
 
-// Which record of a journal alone two bytes are the mark of.
+// The mark of a record that only a journal has: KP keeps, GB goes back.
 #[derive(Clone, Copy)]
 pub enum OwnMark {
     Kp,
     Gb,
-    None,
 }
 
-// What stands at an offset after the description: nothing more, a record that fails with 1 or 2, a call of the register, a keeping or a
+// What stands at an offset after the description: nothing more, a record that is short or unknown, a call of the register, a keeping or a
 // return. `to` is the offset of the next record.
 #[derive(Clone, Copy)]
 pub enum RecordAt {
     End,
-    Fails { number: u8 },
+    Fails { refusal: Refusal },
     Calls { call: model::Call, to: usize },
     Keeps { to: usize },
     Returns { to: usize },

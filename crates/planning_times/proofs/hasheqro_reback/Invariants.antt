@@ -1,0 +1,6 @@
+-- What each call comes to. Assumes nothing.
+use Rattle.planning_times.specs.Timed.{back_turn}
+use Rattle.planning_times.proofs.hasheqro_reback.Given as goal
+
+abbrev pub ghost-in_turn : goal.ghost-in_turn
+ghost-in_turn a = back_turn
