@@ -5,7 +5,7 @@ use mathlib.Core.Path.{◌≡◌, refl, sym, ap, subst⁻¹, ◌∙◌}
 use mathlib.Core.Logic.{◌↔◌}
 use mathlib.Core.Bool.{true, not}
 use mathlib.Core.List.{List}
-use lib.ListN.{length, get_or, set}
+use lib.ListN.{length, get_or, set, length-set}
 use lib.Seq.{get_or-set_same, get_or-set_other}
 use native.Mathlib.Omega.{arith}
 use Rattle.laws.specs.Sum.{every}
@@ -24,7 +24,7 @@ use Rattle.planning.specs.declared.State.{State}
 use Rattle.planning.specs.declared.Reply.{Reply}
 use Rattle.planning.specs.Names.{place_limit, same_name, place_of, distinct}
 use Rattle.planning.specs.State.{Sized, no_kept, name_at, kept_sound, sound_state}
-use Rattle.planning.specs.Calls.{place_in, keep_refusal, back_refusal, keeping, going_back, replied, keep_reply, back_reply, opened_state}
+use Rattle.planning.specs.Calls.{place_in, keep_refusal, back_refusal, kept_in, keeping, returned_to, going_back, replied, keep_reply, back_reply, opened_state}
 use Rattle.planning.proofs.Replying.{standing, stands, keep_faulty, keep_again, keep_fifth, keep_new, back_faulty, back_none, back_to, place_within}
 
 -- Nothing kept is sound, and no name is kept twice.
@@ -158,3 +158,25 @@ keep_refused_lem s n k e = replied_refused (keep_refusal s n) s (keeping s n) k 
 
 pub back_refused_lem : (s : State) (n : Name) (k : Refusal) → (back_reply s n).answer ≡ Err k → (back_reply s n).state ≡ s
 back_refused_lem s n k e = replied_refused (back_refusal s n) s (going_back s n) k e
+
+-- Keeping leaves the current balance, and both leave as many places as there were.
+replied_holds : (P : State → Type 0) (r : Answer) (old new : State) → P old → P new → P (replied r old new).state
+replied_holds P (Ok u) old new a b = b
+replied_holds P (Err k) old new a b = a
+
+kept_in_stays : (s : State) (n : Name) (f : Option ℕ) → ((kept_in s n f).balance ≡ s.balance) × (length (kept_in s n f).kept ≡ length s.kept)
+kept_in_stays s n (Some k) = (refl, length-set s.kept k _)
+kept_in_stays s n None = (refl, length-set s.kept s.count _)
+
+returned_to_stays : (s : State) (f : Option ℕ) → length (returned_to s f).kept ≡ length s.kept
+returned_to_stays s (Some k) = refl
+returned_to_stays s None = refl
+
+pub keep_stays : (s : State) (n : Name) → ((keep_reply s n).state.balance ≡ s.balance) × (length (keep_reply s n).state.kept ≡ length s.kept)
+keep_stays s n =
+    replied_holds (λ x. (x.balance ≡ s.balance) × (length x.kept ≡ length s.kept)) (keep_refusal s n) s (keeping s n) (refl, refl)
+    (kept_in_stays s n (place_in s n))
+
+pub back_stays : (s : State) (n : Name) → length (back_reply s n).state.kept ≡ length s.kept
+back_stays s n =
+    replied_holds (λ x. length x.kept ≡ length s.kept) (back_refusal s n) s (going_back s n) refl (returned_to_stays s (place_in s n))

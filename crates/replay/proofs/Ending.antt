@@ -1,5 +1,5 @@
 -- Opening a journal, by the tests that are made. Assumes nothing.
-use Rattle.std.specs.Prelude.{Err}
+use Rattle.std.specs.Prelude.{Err, None}
 use Prim.Native.Nat.{ℕ, ◌-◌, ◌≤◌, ◌<◌}
 use mathlib.Core.Path.{◌≡◌, sym, ap, ◌∙◌}
 use mathlib.Core.Bool.{Bool, true, false, cond}
@@ -15,7 +15,6 @@ use Rattle.model.specs.Fresh.{fresh_balance}
 use Rattle.planning.specs.declared.Opened.{Opened}
 use Rattle.planning.specs.State.{nothing_kept}
 use Rattle.planning.specs.Calls.{opened_state}
-use Rattle.requests.specs.declared.OwnMark.TheVariants.{None}
 use Rattle.requests.specs.Records.{own_at}
 use Rattle.replay.specs.Page.{Page}
 use Rattle.replay.specs.Journal.{is_own, unknown, ends_there, journal_opened, journal_limit, begun_by, begun}

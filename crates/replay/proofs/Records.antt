@@ -1,4 +1,5 @@
 -- What stands at an offset of a journal, and how far its record goes. Assumes nothing.
+use Rattle.std.specs.Prelude.{Option, Some, None}
 use Prim.Native.Nat.{ℕ, ◌+◌, ◌-◌, ◌≤◌}
 use mathlib.Core.Path.{◌≡◌, refl, sym, ap, subst, ◌∙◌}
 use mathlib.Core.List.{List}
@@ -6,13 +7,14 @@ use lib.ListN.{length}
 use native.Mathlib.Omega.{arith}
 use borrow.Author.Tests.{lt-ltb, le-ltb}
 use Rattle.laws.proofs.Cases.{by_lt}
+use Rattle.model.specs.declared.Refusal.{Refusal}
 use Rattle.model.specs.declared.Call.{Call}
 use Rattle.record.specs.declared.CallAt.{CallAt}
 use Rattle.record.specs.declared.CallAt.TheVariants.{End as noCall, Fails as failing, Asks}
 use Rattle.record.specs.Calls.{call_at}
 use Rattle.calls.proofs.Onward.{asks_onward}
 use Rattle.requests.specs.declared.OwnMark.{OwnMark}
-use Rattle.requests.specs.declared.OwnMark.TheVariants.{Kp, Gb, None}
+use Rattle.requests.specs.declared.OwnMark.TheVariants.{Kp, Gb}
 use Rattle.requests.specs.declared.RecordAt.{RecordAt}
 use Rattle.requests.specs.declared.RecordAt.TheVariants.{End, Fails, Calls, Keeps, Returns}
 use Rattle.requests.specs.Records.{own_at, own_marked, besides, record_at}
@@ -30,10 +32,10 @@ Onward s at (Calls c to) = (at + 4 ≤ to) × (to ≤ length s)
 Onward s at (Keeps to) = (to ≡ at + 10) × (to ≤ length s)
 Onward s at (Returns to) = (to ≡ at + 10) × (to ≤ length s)
 
-own_onward : (s : List ℕ) (at n : ℕ) (m : OwnMark) → Onward s at (own_marked m s at n)
-own_onward s at n Kp =
+own_onward : (s : List ℕ) (at : ℕ) (n : Refusal) (m : Option OwnMark) → Onward s at (own_marked m s at n)
+own_onward s at n (Some Kp) =
     by_lt (length s - at) 10 (λ g. rw (lt-ltb (length s - at) 10 g) tt) (λ g. rw (le-ltb (length s - at) 10 g) (refl, omega arith))
-own_onward s at n Gb =
+own_onward s at n (Some Gb) =
     by_lt (length s - at) 10 (λ g. rw (lt-ltb (length s - at) 10 g) tt) (λ g. rw (le-ltb (length s - at) 10 g) (refl, omega arith))
 own_onward s at n None = tt
 

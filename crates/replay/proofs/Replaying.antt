@@ -4,6 +4,7 @@ use mathlib.Core.Path.{◌≡◌, refl, sym, ap, ◌∙◌}
 use mathlib.Core.Bool.{Bool, true, false}
 use mathlib.Core.List.{List, [], ◌++◌, append-nil, append_assoc}
 use native.Mathlib.Omega.{arith}
+use Rattle.model.specs.Answers.{number}
 use Rattle.planning.specs.declared.State.{State}
 use Rattle.requests.specs.Requests.{Request, state_after, Asking, ends, fails, asks, request_at}
 use Rattle.text.specs.Text.{Written}
@@ -114,10 +115,10 @@ module _ (s : List ℕ) (from first most : ℕ) (start : State) {old : List ℕ}
 
   -- The record here fails.
   pub going_fails : i < most → (n : Refusal) → request_at s at ≡ fails n
-      → record { text = g.text ++ refused_line n at; state = cur; next = at; count = i; more = false } ≡ page_of most first start s from
+      → record { text = g.text ++ refused_line (number n) at; state = cur; next = at; count = i; more = false } ≡ page_of most first start s from
   going_fails h n e =
       let c : i ≡ i + 0 = omega arith in
-      (λ j. record { text = g.text ++ refused_line n at; state = cur; next = at; count = c j; more = false })
+      (λ j. record { text = g.text ++ refused_line (number n) at; state = cur; next = at; count = c j; more = false })
       ∙ ap (after g.text i) (sym (page_fails (most - (i + 1)) (first + i) cur s at n e))
       ∙ left h
 

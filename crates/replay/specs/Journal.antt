@@ -1,7 +1,7 @@
 -- All that is printed for a journal. Assumes nothing.
-use Rattle.std.specs.Prelude.{ℕ, ◌+◌, Bool, true, false, cond, ◌&&◌, List, [], ◌++◌, eqb, ltb, length, take, Ok, Err}
-use Rattle.model.specs.declared.Refusal.TheVariants.{TooLong}
-use Rattle.model.specs.Answers.{Answer}
+use Rattle.std.specs.Prelude.{is_some, ℕ, ◌+◌, Bool, true, false, cond, ◌&&◌, List, [], ◌++◌, eqb, ltb, length, take, Ok, Err, Option}
+use Rattle.model.specs.declared.Refusal.TheVariants.{TooLong, UnknownMark}
+use Rattle.model.specs.Answers.{Answer, number}
 use Rattle.model.specs.Fresh.{fresh_balance}
 use Rattle.model.specs.View.{view_of}
 use Rattle.planning.specs.declared.State.{State}
@@ -9,22 +9,19 @@ use Rattle.planning.specs.declared.Opened.{Opened}
 use Rattle.planning.specs.State.{nothing_kept}
 use Rattle.planning.specs.Calls.{opened_state}
 use Rattle.requests.specs.declared.OwnMark.{OwnMark}
-use Rattle.requests.specs.declared.OwnMark.TheVariants.{Kp, Gb, None}
 use Rattle.requests.specs.Records.{own_at}
 use Rattle.report.specs.Lines.{refused_line}
 use Rattle.listing.specs.Listing.{table_text}
 use Rattle.replay.specs.Page.{Page, page_of}
 
 -- The mark is one of a journal alone.
-abbrev pub is_own : OwnMark → Bool
-is_own Kp = true
-is_own Gb = true
-is_own None = false
+abbrev pub is_own : Option OwnMark → Bool
+is_own m = is_some m
 
 -- The refusal of an unknown mark.
 abbrev pub unknown : Answer → Bool
 unknown (Ok u) = false
-unknown (Err n) = eqb n 2
+unknown (Err r) = eqb (number r) (number UnknownMark)
 
 -- A mark of a journal alone stands where the book reader met an unknown one.
 abbrev pub ends_there : List ℕ → Answer → ℕ → Bool
@@ -42,7 +39,7 @@ journal_limit = 1048576
 -- How a journal begins: an accepted description prints nothing yet, a refused one `refused N at P`, and nothing follows.
 abbrev pub begun_by : Answer → ℕ → State → Page
 begun_by (Ok u) place st = record { text = []; state = st; next = place; count = 0; more = true }
-begun_by (Err n) place st = record { text = refused_line n place; state = st; next = place; count = 0; more = false }
+begun_by (Err r) place st = record { text = refused_line (number r) place; state = st; next = place; count = 0; more = false }
 
 -- One that is too long is printed as a refused description, place 1048576, and leaves the fresh state.
 abbrev pub begun : List ℕ → Page
@@ -61,7 +58,7 @@ replies_text p = p.text ++ table_text (view_of p.state.balance)
 -- An accepted description prints its replies and its table, a refused one only `refused N at P`.
 abbrev pub opened_text : List ℕ → Answer → ℕ → State → List ℕ
 opened_text s (Ok u) place st = replies_text (all_replies s place st)
-opened_text s (Err n) place st = refused_line n place
+opened_text s (Err r) place st = refused_line (number r) place
 
 -- A journal over 1,048,576 bytes is refused with 21, place 1048576, printed as a refused description. Otherwise what its opening gives.
 abbrev pub journal_text : List ℕ → List ℕ

@@ -1,6 +1,6 @@
 -- The replies to the records of a journal, one record or one page of them at a time. Assumes nothing.
 use Rattle.std.specs.Prelude.{ℕ, zero, suc, ◌+◌, ◌≡◌, Bool, true, false, cond, List, [], ◌++◌, Ok, Err}
-use Rattle.model.specs.Answers.{Answer}
+use Rattle.model.specs.Answers.{Answer, number}
 use Rattle.register.specs.Calls.{call_reply}
 use Rattle.planning.specs.declared.State.{State}
 use Rattle.planning.specs.Calls.{keep_reply, back_reply}
@@ -13,11 +13,11 @@ use Rattle.replay.specs.declared.Replayed.{Replayed}
 -- The line of a keeping, and of a return, at place k among the records: `kept` or `back`, or `refused` with the refusal.
 abbrev pub kept_text : ℕ → Answer → List ℕ
 kept_text k (Ok u) = call_kept k
-kept_text k (Err x) = call_refused k x
+kept_text k (Err r) = call_refused k (number r)
 
 abbrev pub back_text : ℕ → Answer → List ℕ
 back_text k (Ok u) = call_back k
-back_text k (Err x) = call_refused k x
+back_text k (Err r) = call_refused k (number r)
 
 -- The text of the reply to a request at place k, on a state.
 abbrev pub reply_text : ℕ → State → Request → List ℕ
@@ -37,7 +37,7 @@ pub record Page : Type 0 where
 -- One record, at place k: nothing is left, a record fails with 1 or 2 and prints `refused N at P`, or a request is answered.
 abbrev pub reply_to : Asking → ℕ → State → ℕ → Page
 reply_to ends k st at = record { text = []; state = st; next = at; count = 0; more = false }
-reply_to (fails n) k st at = record { text = refused_line n at; state = st; next = at; count = 0; more = false }
+reply_to (fails r) k st at = record { text = refused_line (number r) at; state = st; next = at; count = 0; more = false }
 reply_to (asks r to) k st at = record { text = reply_text k st r; state = state_after st r; next = to; count = 1; more = true }
 
 abbrev pub record_reply : ℕ → State → List ℕ → ℕ → Page

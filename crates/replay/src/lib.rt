@@ -4,13 +4,16 @@
 mod opening;
 mod page;
 
+ghost use Rattle.std.specs.Prelude.{◌≡◌};
 ghost use Rattle.model.specs.View.{view_of};
 ghost use Rattle.text.specs.Text.{Written};
 ghost use Rattle.listing.specs.Listing.{table_text};
+ghost use Rattle.replay.specs.Page.{replayed_so};
 
 use model::Balance;
 pub use opening::{begin_journal, open_journal};
 pub use page::{next_page, next_record};
+use planning::State;
 use report::ROOM;
 
 // What replaying some records of a journal gives: the state after them, the offset of the next one, how many were replayed, how many
@@ -18,11 +21,26 @@ use report::ROOM;
 // nothing follows it.
 #[derive(Clone, Copy)]
 pub struct Replayed {
-    pub state: planning::State,
+    pub state: State,
     pub next: usize,
     pub count: usize,
     pub length: usize,
     pub more: bool,
+}
+
+impl Replayed {
+    // Where a journal stands before its first record, or before the first of a page.
+    fn begun(state: State, next: usize, length: usize, more: bool) -> Self
+        ensures { result ≡ replayed_so state next 0 length more }
+    {
+        Replayed {
+            state,
+            next,
+            count: 0,
+            length,
+            more,
+        }
+    }
 }
 
 // The table of a balance, from the start of the buffer on, and how many bytes it takes.

@@ -1,37 +1,61 @@
 // The replies to the records of a journal, one record or one page of them at a time.
-ghost use Rattle.std.specs.Prelude.{◌≡◌, ◌≤◌};
-ghost use Rattle.planning.specs.Calls.{with_current};
+ghost use Rattle.std.specs.Prelude.{◌≡◌, ◌+◌, ◌≤◌};
+ghost use Rattle.model.specs.Answers.{accepted};
+ghost use Rattle.model.specs.Limits.{title_limit};
+ghost use Rattle.register.specs.Calls.{call_number};
+ghost use Rattle.text.specs.Text.{Written};
+ghost use Rattle.listing.specs.Listing.{call_text};
 ghost use Rattle.replay.specs.Page as pages;
 
 use crate::Replayed;
-use model::{Answer, Balance};
-use planning::decision::{decide_back, decide_keep};
-use planning::{Keeping, Returning, State};
+use model::{Answer, Call};
+use planning::State;
 use register::decision::decide;
+use register::outcome::{number_of, perform};
 use report::ROOM;
 use requests::RecordAt;
 
 // The most records of a page: 1,048,576 bytes of the buffer hold their replies, of at most 64 bytes each.
 const PAGE: usize = 16384;
 
-// What was replayed, the current balance standing apart from what is kept.
-fn replayed(
-    mut st: State,
-    balance: Balance,
-    next: usize,
-    count: usize,
-    length: usize,
-    more: bool,
-) -> Replayed
-    ensures { result ≡ pages.replayed_so (with_current st balance) next count length more }
+// Puts the line of a call at place k with its answer, where so many numbers were given before it. The result is the offset past the line.
+fn put_call(
+    out: &mut [u8; ROOM],
+    at: usize,
+    k: u64,
+    call: Call,
+    answer: Answer,
+    given: usize,
+) -> usize
+    requires room { at + 64 ≤ 1064960 }
+    requires given { answer ≡ accepted → given ≤ title_limit }
+    ensures { Written 64 out.old at (call_text k call answer (call_number given call)) out.new result }
 {
-    st.balance = balance;
-    Replayed {
-        state: st,
-        next,
-        count,
-        length,
-        more,
+    match answer {
+        Ok(()) => listing::accepted_line(out, at, k, call, number_of(given, call)),
+        Err(refusal) => report::call_refused(out, at, k, u64::from(refusal.number())),
+    }
+}
+
+// Puts the line of a keeping at place k with its answer. The result is the offset past the line.
+fn put_keeping(out: &mut [u8; ROOM], at: usize, k: u64, answer: Answer) -> usize
+    requires { at + 64 ≤ 1064960 }
+    ensures { Written 64 out.old at (pages.kept_text k answer) out.new result }
+{
+    match answer {
+        Ok(()) => report::call_kept(out, at, k),
+        Err(refusal) => report::call_refused(out, at, k, u64::from(refusal.number())),
+    }
+}
+
+// Puts the line of a return at place k with its answer. The result is the offset past the line.
+fn put_return(out: &mut [u8; ROOM], at: usize, k: u64, answer: Answer) -> usize
+    requires { at + 64 ≤ 1064960 }
+    ensures { Written 64 out.old at (pages.back_text k answer) out.new result }
+{
+    match answer {
+        Ok(()) => report::call_back(out, at, k),
+        Err(refusal) => report::call_refused(out, at, k, u64::from(refusal.number())),
     }
 }
 
@@ -47,78 +71,62 @@ fn replies(
     requires { most ≤ pages.page_limit }
     ensures { pages.Replied (pages.page_of most first state s.now from) out.old out.new result }
 {
-    planning::decision::sized(state);
-    let whole = planning::sound(state);
+    let whole = planning::sound(&state);
+    let sound = basin::sound(state.balance);
     let mut st = state;
-    let mut b = state.balance;
-    let sound = basin::sound(b);
-    let mut p = report::no_line(out, 0);
-    let mut at = from;
-    let mut i = 0;
-    while i < most {
-        let done = i;
-        let k = (first as u64) + (done as u64);
-        i = done + 1;
-        match requests::record_at(s, at) {
+    let mut next = from;
+    let mut length = report::no_line(out, 0);
+    for count in 0..most {
+        let k = u64::from(first) + count as u64;
+        match requests::record_at(s, next) {
             RecordAt::End => {
-                return replayed(st, b, at, done, p, false);
+                return Replayed {
+                    state: st,
+                    next,
+                    count,
+                    length,
+                    more: false,
+                };
             }
-            RecordAt::Fails { number } => {
-                let q = report::refused_line(out, p, number as u64, at as u64);
-                return replayed(st, b, at, done, q, false);
+            RecordAt::Fails { refusal } => {
+                length = listing::refused_line(out, length, refusal, next);
+                return Replayed {
+                    state: st,
+                    next,
+                    count,
+                    length,
+                    more: false,
+                };
             }
             RecordAt::Calls { call, to } => {
-                at = to;
-                match decide(b, sound, call) {
-                    Answer::Accepted => {
-                        let number = register::outcome::number_of(b.given, call);
-                        p = listing::accepted_line(out, p, k, call, number);
-                        b = register::outcome::perform(b, call);
-                    }
-                    Answer::Refused(code) => {
-                        p = report::call_refused(out, p, k, code as u64);
-                    }
+                let answer = decide(st.balance, sound, call);
+                length = put_call(out, length, k, call, answer, st.balance.given);
+                if let Ok(()) = answer {
+                    st.balance = perform(st.balance, call);
                 }
+                next = to;
             }
             RecordAt::Keeps { to } => {
-                let name = requests::name_at(s, at + 2);
-                let names = st.names;
-                let count = st.count;
-                at = to;
-                match decide_keep(names, count, whole, name) {
-                    Keeping::Refused { code } => {
-                        p = report::call_refused(out, p, k, code as u64);
-                    }
-                    Keeping::Again { place } => {
-                        p = report::call_kept(out, p, k);
-                        st.kept[place] = b;
-                    }
-                    Keeping::Anew => {
-                        p = report::call_kept(out, p, k);
-                        st.names[count] = name;
-                        st.kept[count] = b;
-                        st.count = count + 1;
-                    }
-                }
+                let name = requests::name_at(s, next + 2);
+                let answer = planning::keep_tested(&mut st, whole, name);
+                length = put_keeping(out, length, k, answer);
+                next = to;
             }
             RecordAt::Returns { to } => {
-                let name = requests::name_at(s, at + 2);
-                let names = st.names;
-                at = to;
-                match decide_back(names, st.count, whole, name) {
-                    Returning::Refused { code } => {
-                        p = report::call_refused(out, p, k, code as u64);
-                    }
-                    Returning::To { place } => {
-                        p = report::call_back(out, p, k);
-                        let kept = st.kept[place];
-                        b = kept;
-                    }
-                }
+                let name = requests::name_at(s, next + 2);
+                let answer = planning::back_tested(&mut st, whole, name);
+                length = put_return(out, length, k, answer);
+                next = to;
             }
         }
     }
-    replayed(st, b, at, i, p, true)
+    Replayed {
+        state: st,
+        next,
+        count: most,
+        length,
+        more: true,
+    }
 }
 
 // The reply to the record at an offset, which is at place k among the records of its journal.
