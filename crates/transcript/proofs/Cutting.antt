@@ -1,5 +1,5 @@
 -- A mark of a journal alone ends the description as a call mark does. Assumes nothing.
-use Rattle.std.specs.Prelude.{Option, Some, None}
+use Rattle.std.specs.Prelude.{Option, Some, None, Ok, Err}
 use Prim.Native.Nat.{ℕ, zero, suc, ◌+◌, ◌-◌, ◌*◌, ◌≤◌, ◌<◌}
 use mathlib.Core.Path.{◌≡◌, refl, sym, ap, ap₂, subst, ◌∙◌}
 use mathlib.Core.Bool.{Bool, true, false, cond}
@@ -14,7 +14,8 @@ use borrow.Author.Tests.{lt-ltb, le-ltb, eq-eqb, ne_eqb, eqb-true}
 use Rattle.laws.specs.Signed.{signed32}
 use Rattle.laws.proofs.Cases.{by_bool, by_lt, by_eq}
 use Rattle.laws.proofs.Every.{both}
-use Rattle.model.specs.declared.Refusal.TheVariants.{Short, UnknownMark, BadDownstream, NegativeFlow}
+use Rattle.model.specs.declared.Refusal.{Refusal}
+use Rattle.model.specs.declared.Refusal.TheVariants.{Short, UnknownMark, BadDownstream, NegativeFlow, OutOfSequence, TooMany, OutsideValues, FewYears, LargeUnit, BadGauge, NegativeRecharge, Unsound, NoSuchPlace, NoSuchUse, BadVolume, NumbersGiven, EntryFull, NoWater, ReceiverBelow, NotInForce, FlowNeeded, TooLong, FifthName, NoSuchName}
 use Rattle.model.specs.declared.Aquifer.{Aquifer}
 use Rattle.river.specs.Wells.{recharge}
 use Rattle.runoff.specs.declared.Measure.{Measure}
@@ -24,13 +25,14 @@ use Rattle.runoff.specs.declared.Gauged.{Gauged}
 use Rattle.runoff.specs.Record.{Year, of_rain, of_gauge}
 use Rattle.record.specs.declared.UnitRecord.{UnitRecord}
 use Rattle.record.specs.declared.Mark.{Mark}
-use Rattle.record.specs.declared.Mark.TheVariants.{Un, Su, Pr, Pd, Af, Ac, Call, Unknown}
+use Rattle.record.specs.declared.Mark.TheVariants.{Un, Su, Pr, Pd, Af, Ac, Call}
 use Rattle.record.specs.Bytes.{bits8, bits16, bits32, signed_bits32}
 use Rattle.record.specs.Record.{spells, is_call, mark_of, aquifer_record}
 use Rattle.record.specs.Described.{unit_at, plot_at, rain_at, gauged_at, summed}
 use Rattle.record.specs.Entries.{Entry, unit_entry, soil_entry, year_entry, aquifer_entry, no_entry, failing, stands, whole_entry, entry_marked, entry_at}
 use Rattle.record.specs.Fault.{bad_gauge, closing_fault, unit_outside, not_onward, unit_fault, soil_outside, soil_fault, rain_outside, gauged_outside, year_fault, aquifer_outside, aquifer_fault}
-use Rattle.book.specs.Reading.{Description, last_unit, last_sums, balance_of, Outcome, read, refused, fault_at, missing, negative, ended, with_entry, Verdict, clear, faulty, unless_faulty, entry_verdict, reading_from, reading, opened_as}
+use Rattle.model.specs.Answers.{Answer, number}
+use Rattle.book.specs.Reading.{Description, closed_by, last_unit, last_sums, balance_of, Outcome, read, refused, fault_at, missing, negative, ended, with_entry, Verdict, clear, faulty, unless_faulty, entry_verdict, reading_from, reading, opened_as}
 use Rattle.book.proofs.Entries.{standing, by_record, reads_end, reads_failing, reads_faulty, reads_clear}
 use Rattle.planning.specs.declared.Opened.{Opened}
 use Rattle.planning.specs.State.{nothing_kept}
@@ -39,9 +41,10 @@ use Rattle.requests.specs.Records.{own_at}
 use Rattle.replay.specs.Journal.{unknown, is_own, ends_there, journal_opened}
 use Rattle.replay.proofs.Ending.{past_end}
 
--- A number that is not that of an unknown mark.
-abbrev Other : ℕ → Type 0
-Other n = n ≡ 2 → ⊥
+-- An answer that is no refusal of an unknown mark.
+abbrev Other : Answer → Type 0
+Other (Ok u) = Unit {0}
+Other (Err r) = number r ≡ number UnknownMark → ⊥
 
 -- What holds of both choices holds of the one that is taken.
 chosen : {A : Type 0} (P : A → Type 0) (t : Bool) (x y : A) → P x → P y → P (cond t x y)
@@ -51,58 +54,59 @@ chosen P false x y p q = q
 -- No fault of closing a unit has the number of an unknown mark.
 closing_other : (units : ℕ) (u : UnitRecord) → Other (closing_fault units u)
 closing_other units u =
-    chosen Other (eqb units 0) 0 _ (λ e. omega arith)
-    (chosen Other (ltb u.years 20) 6 _ (λ e. omega arith)
-    (chosen Other (bad_gauge u.soils u.years u.sum) 9 0 (λ e. omega arith) (λ e. omega arith)))
+    chosen Other (eqb units 0) (Ok tt) _ tt
+    (chosen Other (ltb u.years 20) (Err FewYears) _ (λ e. omega arith)
+    (chosen Other (bad_gauge u.soils u.years u.sum) (Err BadGauge) (Ok tt) (λ e. omega arith) tt))
 
 -- No fault of a UN has it.
 unit_other : (units aquifers : ℕ) (u : UnitRecord) → Other (unit_fault units aquifers u)
 unit_other units aquifers u =
-    chosen Other (ltb 0 aquifers) 3 _ (λ e. omega arith)
-    (chosen Other (leb 64 units) 4 _ (λ e. omega arith)
-    (chosen Other (unit_outside u) 5 _ (λ e. omega arith)
-    (chosen Other (not_onward u.downstream (units + 1)) 8 0 (λ e. omega arith) (λ e. omega arith))))
+    chosen Other (ltb 0 aquifers) (Err OutOfSequence) _ (λ e. omega arith)
+    (chosen Other (leb 64 units) (Err TooMany) _ (λ e. omega arith)
+    (chosen Other (unit_outside u) (Err OutsideValues) _ (λ e. omega arith)
+    (chosen Other (not_onward u.downstream (units + 1)) (Err BadDownstream) (Ok tt) (λ e. omega arith) tt)))
 
 -- No fault of an SU has it.
 soil_other : (units aquifers : ℕ) (u : UnitRecord) (cover soil hectares : ℕ) → Other (soil_fault units aquifers u cover soil hectares)
 soil_other units aquifers u cover soil hectares =
-    chosen Other (ltb 0 aquifers) 3 _ (λ e. omega arith)
-    (chosen Other (eqb units 0) 3 _ (λ e. omega arith)
-    (chosen Other (ltb 0 u.years) 3 _ (λ e. omega arith)
-    (chosen Other (leb 16 u.soils) 4 _ (λ e. omega arith)
-    (chosen Other (soil_outside cover soil hectares) 5 _ (λ e. omega arith)
-    (chosen Other (ltb 300000 (u.hectares + hectares)) 7 0 (λ e. omega arith) (λ e. omega arith))))))
+    chosen Other (ltb 0 aquifers) (Err OutOfSequence) _ (λ e. omega arith)
+    (chosen Other (eqb units 0) (Err OutOfSequence) _ (λ e. omega arith)
+    (chosen Other (ltb 0 u.years) (Err OutOfSequence) _ (λ e. omega arith)
+    (chosen Other (leb 16 u.soils) (Err TooMany) _ (λ e. omega arith)
+    (chosen Other (soil_outside cover soil hectares) (Err OutsideValues) _ (λ e. omega arith)
+    (chosen Other (ltb 300000 (u.hectares + hectares)) (Err LargeUnit) (Ok tt) (λ e. omega arith) tt)))))
 
 -- No fault of a PR, PD or AF has it.
 year_other : (units aquifers : ℕ) (u : UnitRecord) (y : Year) → Other (year_fault units aquifers u y)
 year_other units aquifers u (of_rain r) =
-    chosen Other (ltb 0 aquifers) 3 _ (λ e. omega arith)
-    (chosen Other (eqb units 0) 3 _ (λ e. omega arith)
-    (chosen Other (eqb u.soils 0) 3 _ (λ e. omega arith)
-    (chosen Other (leb 50 u.years) 4 _ (λ e. omega arith)
-    (chosen Other (rain_outside r.measure r.depth) 5 0 (λ e. omega arith) (λ e. omega arith)))))
+    chosen Other (ltb 0 aquifers) (Err OutOfSequence) _ (λ e. omega arith)
+    (chosen Other (eqb units 0) (Err OutOfSequence) _ (λ e. omega arith)
+    (chosen Other (eqb u.soils 0) (Err OutOfSequence) _ (λ e. omega arith)
+    (chosen Other (leb 50 u.years) (Err TooMany) _ (λ e. omega arith)
+    (chosen Other (rain_outside r.measure r.depth) (Err OutsideValues) (Ok tt) (λ e. omega arith) tt))))
 year_other units aquifers u (of_gauge y) =
-    chosen Other (ltb 0 aquifers) 3 _ (λ e. omega arith)
-    (chosen Other (eqb units 0) 3 _ (λ e. omega arith)
-    (chosen Other (ltb 0 u.soils) 3 _ (λ e. omega arith)
-    (chosen Other (leb 50 u.years) 4 _ (λ e. omega arith)
-    (chosen Other (gauged_outside y) 5 0 (λ e. omega arith) (λ e. omega arith)))))
+    chosen Other (ltb 0 aquifers) (Err OutOfSequence) _ (λ e. omega arith)
+    (chosen Other (eqb units 0) (Err OutOfSequence) _ (λ e. omega arith)
+    (chosen Other (ltb 0 u.soils) (Err OutOfSequence) _ (λ e. omega arith)
+    (chosen Other (leb 50 u.years) (Err TooMany) _ (λ e. omega arith)
+    (chosen Other (gauged_outside y) (Err OutsideValues) (Ok tt) (λ e. omega arith) tt))))
 
 -- No fault of an AC has it.
 aquifer_other : (aquifers : ℕ) (a : Aquifer) → Other (aquifer_fault aquifers a)
 aquifer_other aquifers a =
-    chosen Other (leb 32 aquifers) 4 _ (λ e. omega arith)
-    (chosen Other (aquifer_outside a) 5 _ (λ e. omega arith)
-    (chosen Other (lt_z (recharge a) (pos 0)) 11 0 (λ e. omega arith) (λ e. omega arith)))
+    chosen Other (leb 32 aquifers) (Err TooMany) _ (λ e. omega arith)
+    (chosen Other (aquifer_outside a) (Err OutsideValues) _ (λ e. omega arith)
+    (chosen Other (lt_z (recharge a) (pos 0)) (Err NegativeRecharge) (Ok tt) (λ e. omega arith) tt))
 
 -- A verdict that is not under that number.
 abbrev OtherVerdict : Verdict → Type 0
 OtherVerdict clear = Unit {0}
-OtherVerdict (faulty n p) = Other n
+OtherVerdict (faulty n p) = Other (Err n)
 
 -- A verdict by a fault is not under it where neither the fault has it nor what follows is.
-unless_other : (fault place : ℕ) (rest : Verdict) → Other fault → OtherVerdict rest → OtherVerdict (unless_faulty fault place rest)
-unless_other fault place rest f r = chosen OtherVerdict (eqb fault 0) rest (faulty fault place) r f
+unless_other : (fault : Answer) (place : ℕ) (rest : Verdict) → Other fault → OtherVerdict rest → OtherVerdict (unless_faulty fault place rest)
+unless_other (Ok u) place rest f r = r
+unless_other (Err n) place rest f r = f
 
 -- No verdict on a record is under it.
 verdict_other : (d : Description) (e : Entry) (at : ℕ) → OtherVerdict (entry_verdict d e at)
@@ -119,17 +123,21 @@ verdict_other d (aquifer_entry a) at =
 -- An outcome that is not refused under that number.
 abbrev OtherOutcome : Outcome → Type 0
 OtherOutcome (read d at) = Unit {0}
-OtherOutcome (refused n p) = Other n
+OtherOutcome (refused n p) = Other (Err n)
 
 -- A unit at fault at the end is not refused under it where neither the number is it nor what follows is.
-fault_other : (n : ℕ) (f : Option ℕ) (rest : Outcome) → Other n → OtherOutcome rest → OtherOutcome (fault_at n f rest)
+fault_other : (n : Refusal) (f : Option ℕ) (rest : Outcome) → Other (Err n) → OtherOutcome rest → OtherOutcome (fault_at n f rest)
 fault_other n (Some j) rest o r = o
 fault_other n None rest o r = r
+
+closed_other : (fault : Answer) (place : ℕ) (rest : Outcome) → OtherOutcome rest → Other fault → OtherOutcome (closed_by fault place rest)
+closed_other (Ok u) place rest o f = o
+closed_other (Err r) place rest o f = f
 
 -- The end of a description is never refused under it.
 ended_other : (d : Description) (at : ℕ) → OtherOutcome (ended d at)
 ended_other d at =
-    chosen OtherOutcome (eqb (closing_fault (length d.units) (last_sums d)) 0) _ (refused _ (last_unit d).at)
+    closed_other (closing_fault (length d.units) (last_sums d)) (last_unit d).at _
     (fault_other BadDownstream (missing d) _ (λ e. omega arith) (fault_other NegativeFlow (negative (balance_of d) d) (read d at) (λ e. omega arith) tt))
     (closing_other (length d.units) (last_sums d))
 
@@ -231,15 +239,15 @@ module _ (s t : List ℕ) (P : ℕ) (same : (i : ℕ) → i < P → get_or t i 0
         (omega arith, rw (le-ltb (length t - at) size (omega arith)) (g ∙ w)))
 
     -- A record of any mark that stands in the one and ends by P stands in the other.
-    same_marked : (m : Mark) → entry_marked m s at ≡ stands e to → (at + 2 ≤ to) × (entry_marked m t at ≡ stands e to)
-    same_marked Un q = same_whole 31 _ _ (omega arith) (λ l. ap unit_entry (same_unit at l)) q
-    same_marked Su q = same_whole 8 _ _ (omega arith) (λ l. ap soil_entry (same_plot at l)) q
-    same_marked Pr q = same_whole 4 _ _ (omega arith) (λ l. ap (λ (r : Rain). year_entry (of_rain r)) (same_rain Millimetres at l)) q
-    same_marked Pd q = same_whole 4 _ _ (omega arith) (λ l. ap (λ (r : Rain). year_entry (of_rain r)) (same_rain Tenths at l)) q
-    same_marked Af q = same_whole 34 _ _ (omega arith) (λ l. ap (λ (y : Gauged). year_entry (of_gauge y)) (same_gauge at l)) q
-    same_marked Ac q = same_whole 22 _ _ (omega arith) (λ l. ap aquifer_entry (same_aquifer at l)) q
-    same_marked Call q = let z : ◌≡◌ {A = ℕ} 0 1 = cc in absurd (omega arith)
-    same_marked Unknown q = let z : ◌≡◌ {A = ℕ} 0 1 = cc in absurd (omega arith)
+    same_marked : (m : Option Mark) → entry_marked m s at ≡ stands e to → (at + 2 ≤ to) × (entry_marked m t at ≡ stands e to)
+    same_marked (Some Un) q = same_whole 31 _ _ (omega arith) (λ l. ap unit_entry (same_unit at l)) q
+    same_marked (Some Su) q = same_whole 8 _ _ (omega arith) (λ l. ap soil_entry (same_plot at l)) q
+    same_marked (Some Pr) q = same_whole 4 _ _ (omega arith) (λ l. ap (λ (r : Rain). year_entry (of_rain r)) (same_rain Millimetres at l)) q
+    same_marked (Some Pd) q = same_whole 4 _ _ (omega arith) (λ l. ap (λ (r : Rain). year_entry (of_rain r)) (same_rain Tenths at l)) q
+    same_marked (Some Af) q = same_whole 34 _ _ (omega arith) (λ l. ap (λ (y : Gauged). year_entry (of_gauge y)) (same_gauge at l)) q
+    same_marked (Some Ac) q = same_whole 22 _ _ (omega arith) (λ l. ap aquifer_entry (same_aquifer at l)) q
+    same_marked (Some Call) q = let z : ◌≡◌ {A = ℕ} 0 1 = cc in absurd (omega arith)
+    same_marked None q = let z : ◌≡◌ {A = ℕ} 0 1 = cc in absurd (omega arith)
 
     -- So does the record at an offset, since the marks are the same.
     same_entry : entry_at s at ≡ stands e to → entry_at t at ≡ stands e to
@@ -251,7 +259,7 @@ module _ (s t : List ℕ) (P : ℕ) (same : (i : ℕ) → i < P → get_or t i 0
         let m = same_marked (mark_of (bits8 s at) (bits8 s (at + 1))) (sym (entry_marked_lem s at (omega arith)) ∙ q) in
         let b : mark_of (bits8 t at) (bits8 t (at + 1)) ≡ mark_of (bits8 s at) (bits8 s (at + 1)) =
         ap₂ mark_of (same at (omega (arith, m.0))) (same (at + 1) (omega (arith, m.0))) in
-        entry_marked_lem t at (omega (arith, m.0)) ∙ ap (λ (x : Mark). entry_marked x t at) b ∙ m.1))
+        entry_marked_lem t at (omega (arith, m.0)) ∙ ap (λ (x : Option Mark). entry_marked x t at) b ∙ m.1))
         (λ l. let w = sym (entry_end s at l) ∙ q in let z : ◌≡◌ {A = ℕ} 0 1 = cc in absurd (omega arith))
 
 -- A list that is cut at an offset: it has the bytes of another below it, and nothing of a description stands at it.
@@ -291,7 +299,10 @@ ends_later s P at d e to q v r =
 -- A reading that is refused with 2 reaches the place of the refusal.
 reaches : (f : ℕ) (s : List ℕ) (P at : ℕ) (d : Description) → reading_from f s at d ≡ refused UnknownMark P → Reaches s P at d
 unfolding reading_from
-reaches zero s P at d h = let z : ◌≡◌ {A = ℕ} 1 2 = cc in absurd (omega arith)
+reaches zero s P at d h =
+    let w : ◌≡◌ {A = Refusal} Short UnknownMark = cc in
+    let z : ◌≡◌ {A = ℕ} 1 2 = ap number w in
+    absurd (omega arith)
 reaches (suc f) s P at d h =
     by_record s at d
     (λ q. absurd (subst OtherOutcome (sym (reads_end f s at d q) ∙ h) (ended_other d at) refl))
@@ -301,8 +312,8 @@ reaches (suc f) s P at d h =
     subst (λ (x : ℕ). Reaches s x at d) p (ends_here s at d))
     (λ e to n p q v.
     let w : refused n p ≡ refused UnknownMark P = sym (reads_faulty f s at d e to n p q v) ∙ h in
-    let two : n ≡ 2 = cc in
-    absurd (subst OtherVerdict v (verdict_other d e at) two))
+    let two : n ≡ UnknownMark = cc in
+    absurd (subst OtherVerdict v (verdict_other d e at) (ap number two)))
     (λ e to q v. ends_later s P at d e to q v (reaches f s P to (with_entry d e) (sym (reads_clear f s at d e to q v) ∙ h)))
 
 -- Two lists that are cut at one place read alike.
@@ -319,7 +330,7 @@ by_spelling a b x y p q =
     q
 
 -- A call mark is read as one.
-call_marked_lem : (a b : ℕ) → is_call a b ≡ true → mark_of a b ≡ Call
+call_marked_lem : (a b : ℕ) → is_call a b ≡ true → mark_of a b ≡ Some Call
 call_marked_lem a b h =
     by_spelling a b 71 85 (λ p q. ap₂ mark_of p q)
     (λ e₁. by_spelling a b 71 65 (λ p q. ap₂ mark_of p q)
@@ -355,17 +366,44 @@ module _ (s : List ℕ) (P : ℕ) (h : P ≤ length s) where
         within = omega (arith, n, long);
         ends =
             entry_marked_lem t P (omega (arith, n, long))
-            ∙ ap (λ (m : Mark). entry_marked m t P) (ap₂ mark_of first second ∙ call_marked_lem a b c);
+            ∙ ap (λ (m : Option Mark). entry_marked m t P) (ap₂ mark_of first second ∙ call_marked_lem a b c);
       }
 
 -- The state that an outcome opens.
 abbrev state_of : Outcome → Opened
 state_of o = record { answer = (opened_as o).answer; place = (opened_as o).place; state = nothing_kept (opened_as o).balance }
 
+-- The number of an unknown mark is no other refusal's.
+is_unknown : (r : Refusal) → number r ≡ 2 → r ≡ UnknownMark
+is_unknown Unsound e = absurd (omega arith)
+is_unknown Short e = absurd (omega arith)
+is_unknown UnknownMark e = refl
+is_unknown OutOfSequence e = absurd (omega arith)
+is_unknown TooMany e = absurd (omega arith)
+is_unknown OutsideValues e = absurd (omega arith)
+is_unknown FewYears e = absurd (omega arith)
+is_unknown LargeUnit e = absurd (omega arith)
+is_unknown BadDownstream e = absurd (omega arith)
+is_unknown BadGauge e = absurd (omega arith)
+is_unknown NegativeFlow e = absurd (omega arith)
+is_unknown NegativeRecharge e = absurd (omega arith)
+is_unknown NoSuchPlace e = absurd (omega arith)
+is_unknown NoSuchUse e = absurd (omega arith)
+is_unknown BadVolume e = absurd (omega arith)
+is_unknown NumbersGiven e = absurd (omega arith)
+is_unknown EntryFull e = absurd (omega arith)
+is_unknown NoWater e = absurd (omega arith)
+is_unknown ReceiverBelow e = absurd (omega arith)
+is_unknown NotInForce e = absurd (omega arith)
+is_unknown FlowNeeded e = absurd (omega arith)
+is_unknown TooLong e = absurd (omega arith)
+is_unknown FifthName e = absurd (omega arith)
+is_unknown NoSuchName e = absurd (omega arith)
+
 -- An opening that is refused with 2 comes from a reading that is refused with 2 at its place.
 unknown_refused : (o : Outcome) → unknown (opened_as o).answer ≡ true → o ≡ refused UnknownMark (opened_as o).place
 unknown_refused (read d at) e = let z : ◌≡◌ {A = ℕ} 0 1 = cc in absurd (omega arith)
-unknown_refused (refused n p) e = ap (λ (m : ℕ). refused m p) (eqb-true n 2 e)
+unknown_refused (refused n p) e = ap (λ (m : Refusal). refused m p) (is_unknown n (eqb-true (number n) 2 e))
 
 -- A journal's own mark ends the description as a call mark does, even if its body is short.
 pub own_ends_as_call : (s : List ℕ) → ends_there s (opened_state s).answer (opened_state s).place ≡ true

@@ -1,6 +1,6 @@
 -- What a journal promises: how far its pages go, that they join, that its records never run out, the state after them, and that it prints
 -- what a book prints where it has no record of its own. Assumes nothing.
-use Rattle.std.specs.Prelude.{Ok, Err}
+use Rattle.std.specs.Prelude.{Ok, Err, Option, Some, None}
 use Prim.Native.Nat.{ℕ, zero, suc, ◌+◌, ◌-◌, ◌*◌, ◌≤◌, ◌<◌}
 use mathlib.Core.Path.{◌≡◌, refl, sym, ap, ap₂, subst, ◌∙◌}
 use mathlib.Core.Bool.{Bool, true, false, cond}
@@ -10,6 +10,7 @@ use lib.ListN.{length, take}
 use native.Mathlib.Omega.{arith}
 use borrow.Author.Tests.{le-ltb}
 use Rattle.laws.proofs.Cases.{by_bool}
+use Rattle.model.specs.declared.Refusal.{Refusal}
 use Rattle.model.specs.Answers.{Answer}
 use Rattle.model.specs.declared.Balance.{Balance}
 use Rattle.model.specs.View.{view_of}
@@ -23,7 +24,7 @@ use Rattle.planning.specs.declared.Opened.{Opened}
 use Rattle.planning.specs.State.{nothing_kept}
 use Rattle.planning.specs.Calls.{opened_state}
 use Rattle.requests.specs.declared.OwnMark.{OwnMark}
-use Rattle.requests.specs.declared.OwnMark.TheVariants.{Kp, Gb, None}
+use Rattle.requests.specs.declared.OwnMark.TheVariants.{Kp, Gb}
 use Rattle.requests.specs.declared.RecordAt.{RecordAt}
 use Rattle.requests.specs.declared.RecordAt.TheVariants.{End, Fails, Calls, Keeps, Returns}
 use Rattle.requests.specs.Records.{own_at, own_marked, besides, record_at}
@@ -195,9 +196,9 @@ page_state zero k st s at = ap (λ (p : Page). p.state) (page_none k st s at)
 page_state (suc m) k st s at = state_one m k st s at (λ k st to. page_state m k st s to) (request_at s at) refl
 
 -- Without a mark of its own a record fails as the calls of a book say.
-not_own : (s : List ℕ) (at n : ℕ) (m : OwnMark) → is_own m ≡ false → asking (own_marked m s at n) s at ≡ fails n
-not_own s at n Kp e = false_true (sym e)
-not_own s at n Gb e = false_true (sym e)
+not_own : (s : List ℕ) (at : ℕ) (n : Refusal) (m : Option OwnMark) → is_own m ≡ false → asking (own_marked m s at n) s at ≡ fails n
+not_own s at n (Some Kp) e = false_true (sym e)
+not_own s at n (Some Gb) e = false_true (sym e)
 not_own s at n None e = refl
 
 -- What a journal asks at an offset, by the call of a book that stands there.
@@ -206,7 +207,7 @@ module _ (s : List ℕ) (at : ℕ) where
   unfolding record_at
   asked_by x e = ap (λ (y : CallAt). asking (besides y s at) s at) e
 
-  asked_fails : (n : ℕ) → call_at s at ≡ failing n → is_own (own_at s at) ≡ false → request_at s at ≡ fails n
+  asked_fails : (n : Refusal) → call_at s at ≡ failing n → is_own (own_at s at) ≡ false → request_at s at ≡ fails n
   asked_fails n e h = asked_by (failing n) e ∙ not_own s at n (own_at s at) h
 
 -- The page says what the calls of a book say: their lines, the line of a record that failed, and the balance after them.

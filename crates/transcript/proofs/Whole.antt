@@ -9,7 +9,7 @@ use borrow.Author.Tests.{lt-ltb, le-ltb}
 use Rattle.laws.proofs.Cases.{by_bool, by_lt}
 use Rattle.model.specs.declared.Refusal.{Refusal}
 use Rattle.model.specs.declared.Refusal.TheVariants.{TooLong}
-use Rattle.model.specs.Answers.{Answer}
+use Rattle.model.specs.Answers.{Answer, number}
 use Rattle.model.specs.declared.Balance.{Balance}
 use Rattle.model.specs.Fresh.{fresh_balance}
 use Rattle.model.specs.View.{view_of}
@@ -43,8 +43,8 @@ whole_by : (s : List ℕ) (a : Answer) (place : ℕ) (st : State) → ((n : Refu
     → opened_text s a place st ≡ replies_text (whole s (begun_by a place st))
 whole_by s (Ok u) place st f = refl
 whole_by s (Err n) place st f =
-    sym (append-nil (refused_line n place))
-    ∙ ap (λ (l : List ℕ). refused_line n place ++ l) (sym (ap (λ (b : Balance). table_text (view_of b)) (f n refl) ∙ fresh_table))
+    sym (append-nil (refused_line (number n) place))
+    ∙ ap (λ (l : List ℕ). refused_line (number n) place ++ l) (sym (ap (λ (b : Balance). table_text (view_of b)) (f n refl) ∙ fresh_table))
 
 pub whole_text : (s : List ℕ) → journal_text s ≡ replies_text (whole s (begun s))
 whole_text s =
