@@ -104,8 +104,8 @@ impl Command {
                 asked(out, state, "cancelled", reply)?;
             }
             Command::SetCount(count) => state.count = count,
-            Command::SetName { place, name } => *at(&mut state.names, place)? = name,
-            Command::SetKept { place } => *at(&mut state.kept, place)? = balance,
+            Command::SetName { place, name } => at(&mut state.kept, place)?.name = name,
+            Command::SetKept { place } => at(&mut state.kept, place)?.balance = balance,
             Command::Change(change) => change.make(&mut state.balance)?,
         }
         Ok(())

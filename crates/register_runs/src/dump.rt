@@ -41,9 +41,9 @@ impl Display for StateDump<'_> {
     fn fmt<W: fmt::Write>(&self, f: &mut Formatter<W>) -> fmt::Result {
         let s = self.0;
         write!(f, " = {}{}", s.count, BalanceDump(&s.balance))?;
-        for (name, kept) in s.names.iter().zip(&s.kept) {
-            let number = u64::from_le_bytes(name.bytes);
-            write!(f, " / {number}{}", BalanceDump(kept))?;
+        for kept in &s.kept {
+            let number = u64::from_le_bytes(kept.name.bytes);
+            write!(f, " / {number}{}", BalanceDump(&kept.balance))?;
         }
         Ok(())
     }

@@ -11,8 +11,8 @@ pub(crate) fn show<W: Write>(
     number: u16,
 ) -> io::Result<()> {
     match answer {
-        Answer::Accepted => write!(out, " {word}:{number}"),
-        Answer::Refused(code) => write!(out, " {code}:{number}"),
+        Ok(()) => write!(out, " {word}:{number}"),
+        Err(refusal) => write!(out, " {}:{number}", refusal.number()),
     }
 }
 

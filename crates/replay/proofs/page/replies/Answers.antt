@@ -2,7 +2,7 @@
 use Prim.Native.Nat.{ℕ, ◌+◌}
 use mathlib.Core.Path.{◌≡◌, refl, sym, ap, ◌∙◌}
 use mathlib.Core.Bool.{true, false}
-use mathlib.Core.List.{List, [], ◌++◌}
+use mathlib.Core.List.{List}
 use native.Mathlib.Omega.{arith}
 use Rattle.basin.proofs.Soundness.{soundness}
 use Rattle.register.proofs.Keeping.{accepted_from_sound}
@@ -14,8 +14,6 @@ use Rattle.requests.specs.Records.{record_at}
 use Rattle.requests.specs.Requests.{Request, ask, keep, back, state_after, asks, request_at}
 use Rattle.text.specs.Text.{Written}
 use Rattle.text.proofs.Writing.{then, restate}
-use Rattle.report.specs.Lines.{refused_line}
-use Rattle.replay.specs.declared.Replayed.{Replayed}
 use Rattle.replay.specs.Page.{kept_text, back_text, reply_text}
 use Rattle.replay.proofs.Records.{asked, keeps_onward, returns_onward}
 use Rattle.replay.proofs.Replaying.{Going, going_start, going_on, going_ends, going_fails, going_full, replied_so}
