@@ -27,7 +27,7 @@ pub fn loss(u: &Unit) -> u64
 }
 
 // What the forward pass over the units works out, with 0 in the unused places.
-#[derive(Clone, Copy)]
+#[derive(Drop)]
 pub struct Amounts {
     // All that is gained, and lost, at each unit and above it.
     pub gained: [u64; Balance::UNITS],
