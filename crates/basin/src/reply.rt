@@ -8,8 +8,12 @@ ghost use Rattle.basin.specs.Figures as replies;
 use crate::Figures;
 use crate::test::tested;
 use figures::{AquiferFigures, UnitFigures};
+<<<<<<< HEAD
 use model::{Balance, Refusal};
 use river::Amounts;
+=======
+use model::{Answer, Balance};
+>>>>>>> 8b651b927b21f4711e0e886560e5a2e538fcac7c
 
 // 0 in every place for units.
 fn no_units() -> [UnitFigures; Balance::UNITS]
@@ -29,14 +33,13 @@ fn no_aquifers() -> [AquiferFigures; Balance::AQUIFERS]
 pub fn figures(b: Balance) -> Figures
     ensures { result ≡ replies.figures_reply (view_of b) }
 {
-    let mut amounts = Amounts::none();
-    if !tested(b, &mut amounts) {
+    let Some(amounts) = tested(b) else {
         return Figures {
             answer: Err(Refusal::Unsound),
             units: no_units(),
             aquifers: no_aquifers(),
         };
-    }
+    };
     let units = &b.units[..b.unit_count];
     let aquifers = &b.aquifers[..b.aquifer_count];
     Figures {

@@ -1,8 +1,9 @@
 // The test for 0.
-ghost use Rattle.std.specs.Prelude.{◌≡◌, ◌&&◌, ◌≤◌, leb};
+ghost use Rattle.std.specs.Prelude.{◌≡◌, ◌&&◌, ◌≤◌, leb, take, is_some, IfSome};
 ghost use Rattle.model.specs.View.{view_of};
 ghost use Rattle.model.specs.Limits.{unit_limit, aquifer_limit, title_limit};
-ghost use Rattle.river.specs.Passes.{Clear};
+ghost use Rattle.river.specs.Passes.{Flows};
+ghost use Rattle.river.specs.Units.{units_of};
 ghost use Rattle.basin.specs.Sound as sounds;
 
 use crate::cover::{aquifers_hold, units_hold};
@@ -79,31 +80,34 @@ fn flowing<'a>(n: usize, gained: &'a [u64; Balance::UNITS], lost: &'a [u64; Bala
     true
 }
 
-// The test for 0, with amounts of 0 for the forward pass over the units. What that leaves in them serves the figures of a sound balance.
-pub fn tested(b: Balance, amounts: &mut Amounts) -> bool
-    requires { Clear amounts.old }
-    ensures value { result ≡ sounds.sound (view_of b) }
-    ensures arrays_left { sounds.ArraysLeft b amounts.new }
+// The test for 0: what the forward pass gives of the units, where the balance is sound.
+pub fn tested(b: Balance) -> Option<Amounts>
+    ensures value { is_some result ≡ sounds.sound (view_of b) }
+    ensures amounts { IfSome result (Flows (units_of (take b.unit_count b.units))) }
 {
     let n = b.unit_count;
     let m = b.aquifer_count;
     let given = b.given;
     if !counts_sound(n, m, given) {
-        return false;
+        return None;
     }
     let titles = b.titles;
     let aquifers = b.aquifers;
     let units = b.units;
     if !entries_hold(units, n, aquifers, m, titles, given) {
-        return false;
+        return None;
     }
+    let mut amounts = Amounts::none();
     amounts.flow(&units[..n]);
-    flowing(n, &amounts.gained, &amounts.lost)
+    if !flowing(n, &amounts.gained, &amounts.lost) {
+        return None;
+    }
+    Some(amounts)
 }
 
 // A balance is sound if it has none of the faults for which every call first gives 0.
 pub fn sound(b: Balance) -> bool
     ensures { result ≡ sounds.sound (view_of b) }
 {
-    tested(b, &mut Amounts::none())
+    tested(b).is_some()
 }
