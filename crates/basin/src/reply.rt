@@ -8,12 +8,7 @@ ghost use Rattle.basin.specs.Figures as replies;
 use crate::Figures;
 use crate::test::tested;
 use figures::{AquiferFigures, UnitFigures};
-<<<<<<< HEAD
 use model::{Balance, Refusal};
-use river::Amounts;
-=======
-use model::{Answer, Balance};
->>>>>>> 8b651b927b21f4711e0e886560e5a2e538fcac7c
 
 // 0 in every place for units.
 fn no_units() -> [UnitFigures; Balance::UNITS]

@@ -16,13 +16,7 @@ use titles::Sums;
 fn counts_sound(units: usize, aquifers: usize, given: usize) -> bool
     ensures { result ≡ (leb units unit_limit && (leb aquifers aquifer_limit && leb given title_limit)) }
 {
-    if units > Balance::UNITS {
-        return false;
-    }
-    if aquifers > Balance::AQUIFERS {
-        return false;
-    }
-    given <= Balance::TITLES
+    units <= Balance::UNITS && aquifers <= Balance::AQUIFERS && given <= Balance::TITLES
 }
 
 // Every title in force is sound; every aquifer and every unit is sound, and none of its entries is exceeded by its titles. One walk over
@@ -39,12 +33,8 @@ fn entries_hold(
     ensures { result ≡ sounds.entries_hold (sounds.parts_view units n aquifers m titles given) }
 {
     let mut sums = Sums::none();
-    let mut k = 0;
-    while k < given {
-        let p = titles[k];
-        let title = p.title;
-        let in_force = p.in_force;
-        k += 1;
+    for k in 0..given {
+        let Place { title, in_force } = titles[k];
         if in_force {
             if !title_sound(title, n, m) {
                 return false;
@@ -52,10 +42,7 @@ fn entries_hold(
             sums.add(title);
         }
     }
-    if !aquifers_hold(aquifers, m, &sums.wells) {
-        return false;
-    }
-    units_hold(
+    aquifers_hold(aquifers, m, &sums.wells) && units_hold(
         units,
         n,
         &sums.extraction,
@@ -70,14 +57,7 @@ fn flowing<'a>(n: usize, gained: &'a [u64; Balance::UNITS], lost: &'a [u64; Bala
     requires { n ≤ unit_limit }
     ensures { result ≡ sounds.balanced n gained.now lost.now }
 {
-    let mut i = 0;
-    while i < n {
-        if gained[i] < lost[i] {
-            return false;
-        }
-        i += 1;
-    }
-    true
+    (0..n).all(|i| lost[i] <= gained[i])
 }
 
 // The test for 0: what the forward pass gives of the units, where the balance is sound.
