@@ -32,9 +32,10 @@ pub fn units_hold<'a>(
 {
     for i in 0..n {
         let u = units[i];
-        if !unit_sound(u, i, n)
-            || !unit_covered(u, extraction[i], exports[i], imports[i], returns[i])
-        {
+        if !unit_sound(u, i, n) {
+            return false;
+        }
+        if !unit_covered(u, extraction[i], exports[i], imports[i], returns[i]) {
             return false;
         }
     }
@@ -52,7 +53,10 @@ pub fn aquifers_hold(
 {
     for i in 0..n {
         let a = aquifers[i];
-        if !aquifer_sound(a) || extraction[i] > u64::from(a.extraction) {
+        if !aquifer_sound(a) {
+            return false;
+        }
+        if extraction[i] > u64::from(a.extraction) {
             return false;
         }
     }

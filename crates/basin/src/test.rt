@@ -42,7 +42,10 @@ fn entries_hold(
             sums.add(title);
         }
     }
-    aquifers_hold(aquifers, m, &sums.wells) && units_hold(
+    if !aquifers_hold(aquifers, m, &sums.wells) {
+        return false;
+    }
+    units_hold(
         units,
         n,
         &sums.extraction,
@@ -57,7 +60,12 @@ fn flowing<'a>(n: usize, gained: &'a [u64; Balance::UNITS], lost: &'a [u64; Bala
     requires { n ≤ unit_limit }
     ensures { result ≡ sounds.balanced n gained.now lost.now }
 {
-    (0..n).all(|i| lost[i] <= gained[i])
+    for i in 0..n {
+        if gained[i] < lost[i] {
+            return false;
+        }
+    }
+    true
 }
 
 // The test for 0: what the forward pass gives of the units, where the balance is sound.

@@ -6,8 +6,4 @@ use Rattle.basin.specs.Sound.{unit_holds}
 use Rattle.basin.proofs.cover.units_hold.Given as goal
 
 abbrev pub invariant-loop-i : goal.invariant-loop-i
-invariant-loop-i l =
-    (l.i ≤ l.n) × ((k : ℕ) → k < l.i → unit_holds l.n l.units l.extraction l.exports l.imports l.returns k ≡ true)
-
-abbrev pub decreases-loop-i : goal.decreases-loop-i
-decreases-loop-i l = l.n - l.i
+invariant-loop-i l = (k : ℕ) → k < l.i → unit_holds l.n l.units l.extraction l.exports l.imports l.returns k ≡ true

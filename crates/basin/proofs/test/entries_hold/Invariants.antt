@@ -13,7 +13,3 @@ invariant-loop-k l =
     (l.k ≤ l.given)
     × ((j : ℕ) → j < l.k → sound_place l.n l.m (get_or l.titles j empty_place) ≡ true)
     × TitledAll l.titles l.k l.sums
-
-abbrev pub decreases-loop-k : goal.decreases-loop-k
-decreases-loop-k l =
-    l.given - l.k

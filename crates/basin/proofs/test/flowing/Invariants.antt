@@ -7,7 +7,4 @@ use lib.ListN.{get_or}
 use Rattle.basin.proofs.test.flowing.Given as goal
 
 abbrev pub invariant-loop-i : goal.invariant-loop-i
-invariant-loop-i l = (l.i ≤ l.n) × ((j : ℕ) → j < l.i → leb (get_or l.lost j 0) (get_or l.gained j 0) ≡ true)
-
-abbrev pub decreases-loop-i : goal.decreases-loop-i
-decreases-loop-i l = l.n - l.i
+invariant-loop-i l = (j : ℕ) → j < l.i → leb (get_or l.lost j 0) (get_or l.gained j 0) ≡ true
