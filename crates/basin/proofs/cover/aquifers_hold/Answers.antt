@@ -24,7 +24,7 @@ pub loop-i-preserved : goal.loop-i-preserved
 loop-i-preserved c =
     let sound = c in
     below_more _ _ c.loop-i.invariant
-          (both_hold _ _ (call_holds sound.aquifer_sound.ensures sound.if-not-aquifer_sound.false) (le-leb _ _ (rw c.from.ensures at c.if-extraction-i.false)))
+    (both_hold _ _ (call_holds sound.aquifer_sound.ensures sound.if-not-aquifer_sound.false) (le-leb _ _ (rw c.from.ensures at c.if-extraction-i.false)))
 
 pub returns : goal.returns
 returns c = sym (each_every _ _ (λ k h. c.loop-i.invariant k (omega arith)))

@@ -1,5 +1,5 @@
 -- `basin::aquifers_hold` meets its contract. The loop's invariant: each of the first i aquifers holds. Assumes nothing.
-use Prim.Native.Nat.{ℕ, ◌≤◌, ◌<◌, ◌-◌}
+use Prim.Native.Nat.{ℕ, ◌<◌}
 use mathlib.Core.Path.{◌≡◌}
 use mathlib.Core.Bool.{true}
 use Rattle.basin.specs.Sound.{aquifer_holds}

@@ -24,8 +24,8 @@ pub loop-i-preserved : goal.loop-i-preserved
 loop-i-preserved c =
     let sound = c in
     below_more _ _ c.loop-i.invariant
-          (both_hold _ _ (call_holds sound.unit_sound.ensures sound.if-not-unit_sound.false)
-          (call_holds c.unit_covered.ensures c.if-not-unit_covered.false))
+    (both_hold _ _ (call_holds sound.unit_sound.ensures sound.if-not-unit_sound.false)
+    (call_holds c.unit_covered.ensures c.if-not-unit_covered.false))
 
 pub returns : goal.returns
 returns c = sym (each_every _ _ (λ k h. c.loop-i.invariant k (omega arith)))

@@ -1,5 +1,5 @@
 -- `basin::units_hold` meets its contract. The loop's invariant: each of the first i units holds. Assumes nothing.
-use Prim.Native.Nat.{ℕ, ◌≤◌, ◌<◌, ◌-◌}
+use Prim.Native.Nat.{ℕ, ◌<◌}
 use mathlib.Core.Path.{◌≡◌}
 use mathlib.Core.Bool.{true}
 use Rattle.basin.specs.Sound.{unit_holds}

@@ -1,5 +1,5 @@
 -- `basin::entries_hold` meets its contract. The loop's invariant: each of the first k places is sound, and they are added up. Assumes nothing.
-use Prim.Native.Nat.{ℕ, ◌≤◌, ◌<◌, ◌-◌}
+use Prim.Native.Nat.{ℕ, ◌≤◌, ◌<◌}
 use mathlib.Core.Path.{◌≡◌}
 use mathlib.Core.Bool.{true}
 use lib.ListN.{get_or}

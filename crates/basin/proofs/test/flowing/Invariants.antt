@@ -1,5 +1,5 @@
 -- `basin::flowing` meets its contract. The loop's invariant: no more is lost than gained at each of the first i units. Assumes nothing.
-use Prim.Native.Nat.{ℕ, ◌≤◌, ◌<◌, ◌-◌}
+use Prim.Native.Nat.{ℕ, ◌<◌}
 use mathlib.Core.Path.{◌≡◌}
 use mathlib.Core.Bool.{true}
 use lib.Dec.{leb}
