@@ -120,9 +120,3 @@ unfolding Sound.sound
 in_order_lem v r e =
     e ∙ reordered (Sound.sound_counts v) (Sound.sound_titles v) (Sound.sound_units v) (every v.units (Sound.covered_unit v))
     (Sound.sound_aquifers v) (every v.aquifers (Sound.covered_aquifer v)) (Sound.flowing v)
-
--- The flows of a sound balance can be worked out.
-pub sound_workable : (v : View) → Sound.sound v ≡ true → Sound.workable v ≡ true
-sound_workable v e =
-    let p = both (Sound.sound_counts v) _ (in_order_lem v (in_order v) refl ∙ e) in
-    both_hold (Sound.sound_counts v) (Sound.entries_hold v) p.0 (both (Sound.entries_hold v) (Sound.flowing v) p.1).0

@@ -1,6 +1,6 @@
 -- The test for 0 (document 01, "What each operation refuses"; document 02 [2]): a call gives 0 if the balance handed to it is not sound.
 -- Assumes nothing.
-use Rattle.std.specs.Prelude.{ℕ, suc, ◌≡◌, Bool, true, false, not, ◌&&◌, ◌||◌, List, eqb, leb, ltb, ℤ, pos, neg_ℤ, get_or, take}
+use Rattle.std.specs.Prelude.{ℕ, suc, Bool, not, ◌&&◌, ◌||◌, List, eqb, leb, ltb, ℤ, pos, neg_ℤ, get_or}
 use Rattle.std.specs.Int.Signed.{le_z, non_neg}
 use Rattle.laws.specs.Sum.{every}
 use Rattle.model.specs.declared.Unit.{Unit}
@@ -8,14 +8,10 @@ use Rattle.model.specs.declared.Aquifer.{Aquifer}
 use Rattle.model.specs.declared.Title.{Title}
 use Rattle.model.specs.declared.Title.TheVariants.{UnitWithdrawal, AquiferWithdrawal, UnitTransfer, AquiferTransfer, ReturningWithdrawal}
 use Rattle.model.specs.declared.Place.{Place}
-use Rattle.model.specs.declared.Balance.{Balance}
 use Rattle.model.specs.Fresh.{empty_unit, empty_aquifer, empty_place}
-use Rattle.model.specs.View.{View, view_of}
+use Rattle.model.specs.View.{View}
 use Rattle.model.specs.Limits.{unit_limit, aquifer_limit, title_limit, term_limit}
 use Rattle.river.specs.Flow.{flow}
-use Rattle.river.specs.Passes.{Clear, Flows}
-use Rattle.river.specs.Units.{units_of}
-use Rattle.river.specs.declared.flow.Amounts.{Amounts}
 use Rattle.river.specs.Wells.{recharge}
 use Rattle.titles.specs.Adds.{titled}
 use Rattle.titles.specs.declared.Slot.TheVariants.{Extraction, Exports, Imports, Returns, WellExtraction}
@@ -131,16 +127,6 @@ parts_view us n ws m ts given =
       given = given;
       place = λ k. get_or ts k empty_place;
     }
-
--- The counts and the entries of a balance hold: its flows can be worked out.
-abbrev pub workable : View → Bool
-workable v = sound_counts v && entries_hold v
-
--- What the test leaves in the amounts of the forward pass: what that gives of the counted units, where the flows can be worked out, and
--- otherwise 0 in every place.
-pub record ArraysLeft (b : Balance) (a : Amounts) : Type 0 where
-  pub passed : workable (view_of b) ≡ true → Flows (units_of (take b.unit_count b.units)) a
-  pub clear : workable (view_of b) ≡ false → Clear a
 
 -- No more is lost than gained at each of the first n units.
 abbrev pub balanced : ℕ → List ℕ → List ℕ → Bool

@@ -11,16 +11,10 @@ use model::{Aquifer, Balance, Unit};
 fn unit_covered(u: Unit, extraction: u64, exports: u64, imports: u64, returns: u64) -> bool
     ensures { result ≡ sounds.covers extraction exports imports returns u }
 {
-    if extraction > (u.extraction as u64) {
-        return false;
-    }
-    if exports > (u.exports as u64) {
-        return false;
-    }
-    if imports > (u.imports as u64) {
-        return false;
-    }
-    returns <= (u.returns as u64)
+    extraction <= u64::from(u.extraction)
+        && exports <= u64::from(u.exports)
+        && imports <= u64::from(u.imports)
+        && returns <= u64::from(u.returns)
 }
 
 // Every unit is sound, and no entry of it is exceeded by its titles.
@@ -36,8 +30,7 @@ pub fn units_hold<'a>(
     ensures { result ≡ every n
         (sounds.unit_holds n units extraction.now exports.now imports.now returns.now) }
 {
-    let mut i = 0;
-    while i < n {
+    for i in 0..n {
         let u = units[i];
         if !unit_sound(u, i, n) {
             return false;
@@ -45,7 +38,6 @@ pub fn units_hold<'a>(
         if !unit_covered(u, extraction[i], exports[i], imports[i], returns[i]) {
             return false;
         }
-        i += 1;
     }
     true
 }
@@ -59,16 +51,14 @@ pub fn aquifers_hold(
     requires { n ≤ aquifer_limit }
     ensures { result ≡ every n (sounds.aquifer_holds aquifers extraction.now) }
 {
-    let mut i = 0;
-    while i < n {
+    for i in 0..n {
         let a = aquifers[i];
         if !aquifer_sound(a) {
             return false;
         }
-        if extraction[i] > (a.extraction as u64) {
+        if extraction[i] > u64::from(a.extraction) {
             return false;
         }
-        i += 1;
     }
     true
 }

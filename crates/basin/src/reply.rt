@@ -9,7 +9,6 @@ use crate::Figures;
 use crate::test::tested;
 use figures::{AquiferFigures, UnitFigures};
 use model::{Balance, Refusal};
-use river::Amounts;
 
 // 0 in every place for units.
 fn no_units() -> [UnitFigures; Balance::UNITS]
@@ -29,14 +28,13 @@ fn no_aquifers() -> [AquiferFigures; Balance::AQUIFERS]
 pub fn figures(b: Balance) -> Figures
     ensures { result ≡ replies.figures_reply (view_of b) }
 {
-    let mut amounts = Amounts::none();
-    if !tested(b, &mut amounts) {
+    let Some(amounts) = tested(b) else {
         return Figures {
             answer: Err(Refusal::Unsound),
             units: no_units(),
             aquifers: no_aquifers(),
         };
-    }
+    };
     let units = &b.units[..b.unit_count];
     let aquifers = &b.aquifers[..b.aquifer_count];
     Figures {

@@ -1,8 +1,9 @@
 // The test for 0.
-ghost use Rattle.std.specs.Prelude.{◌≡◌, ◌&&◌, ◌≤◌, leb};
+ghost use Rattle.std.specs.Prelude.{◌≡◌, ◌&&◌, ◌≤◌, leb, take, is_some, IfSome};
 ghost use Rattle.model.specs.View.{view_of};
 ghost use Rattle.model.specs.Limits.{unit_limit, aquifer_limit, title_limit};
-ghost use Rattle.river.specs.Passes.{Clear};
+ghost use Rattle.river.specs.Passes.{Flows};
+ghost use Rattle.river.specs.Units.{units_of};
 ghost use Rattle.basin.specs.Sound as sounds;
 
 use crate::cover::{aquifers_hold, units_hold};
@@ -15,13 +16,7 @@ use titles::Sums;
 fn counts_sound(units: usize, aquifers: usize, given: usize) -> bool
     ensures { result ≡ (leb units unit_limit && (leb aquifers aquifer_limit && leb given title_limit)) }
 {
-    if units > Balance::UNITS {
-        return false;
-    }
-    if aquifers > Balance::AQUIFERS {
-        return false;
-    }
-    given <= Balance::TITLES
+    units <= Balance::UNITS && aquifers <= Balance::AQUIFERS && given <= Balance::TITLES
 }
 
 // Every title in force is sound; every aquifer and every unit is sound, and none of its entries is exceeded by its titles. One walk over
@@ -38,12 +33,8 @@ fn entries_hold(
     ensures { result ≡ sounds.entries_hold (sounds.parts_view units n aquifers m titles given) }
 {
     let mut sums = Sums::none();
-    let mut k = 0;
-    while k < given {
-        let p = titles[k];
-        let title = p.title;
-        let in_force = p.in_force;
-        k += 1;
+    for k in 0..given {
+        let Place { title, in_force } = titles[k];
         if in_force {
             if !title_sound(title, n, m) {
                 return false;
@@ -69,41 +60,42 @@ fn flowing<'a>(n: usize, gained: &'a [u64; Balance::UNITS], lost: &'a [u64; Bala
     requires { n ≤ unit_limit }
     ensures { result ≡ sounds.balanced n gained.now lost.now }
 {
-    let mut i = 0;
-    while i < n {
+    for i in 0..n {
         if gained[i] < lost[i] {
             return false;
         }
-        i += 1;
     }
     true
 }
 
-// The test for 0, with amounts of 0 for the forward pass over the units. What that leaves in them serves the figures of a sound balance.
-pub fn tested(b: Balance, amounts: &mut Amounts) -> bool
-    requires { Clear amounts.old }
-    ensures value { result ≡ sounds.sound (view_of b) }
-    ensures arrays_left { sounds.ArraysLeft b amounts.new }
+// The test for 0: what the forward pass gives of the units, where the balance is sound.
+pub fn tested(b: Balance) -> Option<Amounts>
+    ensures value { is_some result ≡ sounds.sound (view_of b) }
+    ensures amounts { IfSome result (Flows (units_of (take b.unit_count b.units))) }
 {
     let n = b.unit_count;
     let m = b.aquifer_count;
     let given = b.given;
     if !counts_sound(n, m, given) {
-        return false;
+        return None;
     }
     let titles = b.titles;
     let aquifers = b.aquifers;
     let units = b.units;
     if !entries_hold(units, n, aquifers, m, titles, given) {
-        return false;
+        return None;
     }
+    let mut amounts = Amounts::none();
     amounts.flow(&units[..n]);
-    flowing(n, &amounts.gained, &amounts.lost)
+    if !flowing(n, &amounts.gained, &amounts.lost) {
+        return None;
+    }
+    Some(amounts)
 }
 
 // A balance is sound if it has none of the faults for which every call first gives 0.
 pub fn sound(b: Balance) -> bool
     ensures { result ≡ sounds.sound (view_of b) }
 {
-    tested(b, &mut Amounts::none())
+    tested(b).is_some()
 }

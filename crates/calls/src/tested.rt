@@ -16,9 +16,7 @@ pub fn run_tested(s: &[u8], from: usize, balance: Balance, sound: bool) -> Ran
 {
     let mut b = balance;
     let mut at = from;
-    let mut left = s.len() + 1;
-    while 0 < left {
-        left -= 1;
+    for _ in 0..s.len() + 1 {
         match record::call_at(s, at) {
             CallAt::End => {
                 return Ran {

@@ -129,10 +129,8 @@ pub fn hasheqro_refigure(book: &[u8], times: u64) -> u64
 {
     let b = balance_after(book);
     let mut count = 0;
-    let mut i = 0;
-    while i < times {
+    for _ in 0..times {
         count += figured(b);
-        i += 1;
     }
     count
 }

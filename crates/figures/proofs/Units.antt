@@ -61,6 +61,3 @@ unit_figures_alone v j = λ i.
       reserve = reserve_alone v j i;
       availability = flow_alone v j i -ℤ pos (committed_alone v j i);
     }
-
-pub figures_alone : (v : View) → all_unit_figures (alone v) ≡ all_unit_figures v
-figures_alone v = λ i. table 64 no_unit_figures v.units (λ j. unit_figures_alone v j i)

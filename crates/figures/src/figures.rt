@@ -37,17 +37,19 @@ pub fn unit_figures(units: &[Unit], amounts: &Amounts) -> [UnitFigures; Balance:
     let mut all = [UnitFigures::default(); Balance::UNITS];
     for i in (0..units.len()).rev() {
         let u = &units[i];
-        let mut committed = u64::from(u.commitment);
-        if let Some(k) = usize::from(u.downstream).checked_sub(1) {
-            let own = contribution(amounts.gained[i], amounts.lost[i]);
-            committed = from_below(
-                &units[k],
-                all[k].committed,
-                amounts.arrived[k],
-                amounts.before[i],
-                own,
-            );
-        }
+        let committed = match usize::from(u.downstream).checked_sub(1) {
+            None => u64::from(u.commitment),
+            Some(k) => {
+                let own = contribution(amounts.gained[i], amounts.lost[i]);
+                from_below(
+                    &units[k],
+                    all[k].committed,
+                    amounts.arrived[k],
+                    amounts.before[i],
+                    own,
+                )
+            }
+        };
         all[i] = of_unit(
             u,
             amounts.gained[i],

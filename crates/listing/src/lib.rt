@@ -32,11 +32,8 @@ fn unit_lines(
     ensures { Written 8192 out.old at (text.lines_of n (λ k. text.unit_text (get_or units k no_unit_figures) k)) out.new result }
 {
     let mut p = report::no_line(out, at);
-    let mut i = 0;
-    while i < n {
-        let f = units[i];
-        p = unit_line(out, p, i, f);
-        i += 1;
+    for i in 0..n {
+        p = unit_line(out, p, i, units[i]);
     }
     p
 }
@@ -46,16 +43,14 @@ fn unit_line(out: &mut [u8; ROOM], at: usize, k: usize, f: UnitFigures) -> usize
     requires { (k ≤ unit_limit) × (at + 128 ≤ 1064960) }
     ensures { Written 128 out.old at (text.unit_text f k) out.new result }
 {
-    let flow = f.flow;
-    let availability = f.availability;
     report::unit_line(
         out,
         at,
-        (k as u64) + 1,
-        flow,
+        k as u64 + 1,
+        f.flow,
         f.committed,
         f.reserve,
-        availability,
+        f.availability,
     )
 }
 
@@ -70,11 +65,8 @@ fn aquifer_lines(
     ensures { Written 4096 out.old at (text.lines_of n (λ k. text.aquifer_text (get_or aquifers k no_aquifer_figures) k)) out.new result }
 {
     let mut p = report::no_line(out, at);
-    let mut i = 0;
-    while i < n {
-        let f = aquifers[i];
-        p = aquifer_line(out, p, i, f);
-        i += 1;
+    for i in 0..n {
+        p = aquifer_line(out, p, i, aquifers[i]);
     }
     p
 }
@@ -84,9 +76,7 @@ fn aquifer_line(out: &mut [u8; ROOM], at: usize, k: usize, f: AquiferFigures) ->
     requires { (k ≤ aquifer_limit) × (at + 128 ≤ 1064960) }
     ensures { Written 128 out.old at (text.aquifer_text f k) out.new result }
 {
-    let recharge = f.recharge;
-    let availability = f.availability;
-    report::aquifer_line(out, at, (k as u64) + 1, recharge, availability)
+    report::aquifer_line(out, at, k as u64 + 1, f.recharge, f.availability)
 }
 
 // The table of a balance: its units and then its aquifers.
@@ -115,8 +105,8 @@ pub fn accepted_line(out: &mut [u8; ROOM], at: usize, k: u64, call: Call, number
     ensures { Written 64 out.old at (text.accepted_text k call number) out.new result }
 {
     match call {
-        Call::Grant { title: _ } => report::call_given(out, at, k, number as u64),
-        Call::Cancel { number: _ } => report::call_cancelled(out, at, k, number as u64),
+        Call::Grant { .. } => report::call_given(out, at, k, u64::from(number)),
+        Call::Cancel { .. } => report::call_cancelled(out, at, k, u64::from(number)),
     }
 }
 
@@ -155,9 +145,7 @@ fn call_lines(s: &[u8], from: usize, balance: Balance, out: &mut [u8; ROOM]) -> 
     let mut b = balance;
     let mut at = from;
     let mut k = 0;
-    let mut left = s.len() + 1;
-    while 0 < left {
-        left -= 1;
+    for _ in 0..s.len() + 1 {
         match record::call_at(s, at) {
             CallAt::End => {
                 return Lines {

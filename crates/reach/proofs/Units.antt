@@ -1,5 +1,4 @@
--- The ways down over views with the same units are the same. Assumes nothing.
--- The ways down over the units of a view alone are the same as over the view. Assumes nothing.
+-- The ways down over views with the same units are the same; so are those over the units of a view alone. Assumes nothing.
 use Prim.Native.Nat.{ℕ, zero, suc, pred, ◌<◌}
 use mathlib.Core.Path.{◌≡◌, refl, ap}
 use mathlib.Core.Bool.{Bool, false, cond, ◌||◌}

@@ -6,7 +6,8 @@ ghost use Rattle.reach.specs.Reach.{lies_below};
 
 use model::Unit;
 
-// Whether the unit at index w lies below the unit at index u: it is u's downstream unit or lies below that one.
+// Whether the unit at index w lies below the unit at index u: it is u's downstream unit or lies below that one. A rule of the project fixes
+// that this test calls itself on the downstream unit; the distance from the unit number to 64 falls.
 pub fn lies_below(units: &[Unit], u: usize, w: usize) -> bool
     requires { Ready (units_of units.now) × (u < length units.now) }
     ensures { result ≡ lies_below (units_of units.now) u w }

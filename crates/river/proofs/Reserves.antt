@@ -7,7 +7,6 @@ use lib.Dec.{eqb}
 use borrow.Author.Tests.{eq-eqb, ne_eqb}
 use native.Mathlib.Nat.{mul-le-mul_right}
 use native.Mathlib.Omega.{arith}
-use native.Mathlib.Numerals.{sub-one}
 use Rattle.laws.specs.Sum.{naturals, integers, sum_of, only}
 use Rattle.laws.specs.Gather.{arriving}
 use Rattle.laws.proofs.Cases.{by_eq}
@@ -85,11 +84,6 @@ running_within v j b =
   where
     only_same : (w d a : ℕ) → d ≡ suc w → only naturals (eqb d (suc w)) a ≡ a
     only_same w d a e = rw (eq-eqb d (suc w) e)
-
--- The same at the place of the downstream unit, its number less 1.
-pub left_within : (v : View) (j : ℕ) → Below v j
-    → arriving naturals (downstream v) (contribution v) j (downstream v j - 1) + contribution v j ≤ total v (pred (downstream v j))
-left_within v j b = rw (sub-one (downstream v j)) (running_within v j b)
 
 share_within : (D T B x : ℕ) → B + x ≤ T → cond (eqb T 0) 0 (share D T B (B + x)) ≤ D
 share_within D T B x h =

@@ -140,11 +140,6 @@ pub flow_alone : (v : View) (j : ℕ) → flow (alone v) j ≡ flow v j
 unfolding flow
 flow_alone v j = refl
 
--- The lowest-numbered unit with a negative flow.
-pub negative_alone : (v : View)
-    → first v.units (λ j. not (non_neg (flow (alone v) j))) ≡ first v.units (λ j. not (non_neg (flow v j)))
-negative_alone v = λ i. first v.units (λ j. not (non_neg (flow_alone v j i)))
-
 running_alone : (v : View) (w j : ℕ) → running_total (alone v) w j ≡ running_total v w j
 running_alone v w j = λ i. arriving naturals (downstream v) (λ k. above (flow_alone v k i)) j w
 

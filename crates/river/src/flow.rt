@@ -26,8 +26,9 @@ pub fn loss(u: &Unit) -> u64
         + laws::above(u.storage)
 }
 
-// What the forward pass over the units works out, with 0 in the unused places.
-#[derive(Clone, Copy)]
+// What the forward pass over the units works out, with 0 in the unused places. An array for each amount, since what a unit gathers is stated
+// of one array at a time: an array of structs is no plainer there.
+#[derive(Drop)]
 pub struct Amounts {
     // All that is gained, and lost, at each unit and above it.
     pub gained: [u64; Balance::UNITS],

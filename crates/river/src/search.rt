@@ -16,6 +16,7 @@ pub fn first_negative(units: &[Unit]) -> Option<usize>
 {
     let mut arrived = [0; Balance::UNITS];
     let mut rest = units.iter().enumerate();
+    // A loop that yields the unit at fault by a break: a rule of the project fixes this form.
     loop {
         let Some((i, u)) = rest.next() else {
             break None;

@@ -10,13 +10,13 @@ use Rattle.listing.proofs.aquifer_lines.Goals as goal
 
 pub loop-i-init : goal.loop-i-init
 unfolding lines_of
-loop-i-init c = (omega arith, still c.no_line-p.ensures)
+loop-i-init c = still c.no_line-p.ensures
 
 pub loop-i-preserved : goal.loop-i-preserved
 unfolding lines_of
 loop-i-preserved c =
     let turn = c.loop-i in
-    (omega arith, rw (add-one turn.i) (widen (then turn.invariant.1 c.aquifer_line-p.ensures) (omega arith)))
+    rw (add-one turn.i) (widen (then turn.invariant c.aquifer_line-p.ensures) (omega arith))
 
 pub returns : goal.returns
 returns c =
@@ -24,5 +24,5 @@ returns c =
     let all : c.loop-i.i ≡ start.args.n = omega arith in
     widen
     (then c.no_line-p.ensures
-    (restate c.loop-i.invariant.1 (λ i. lines_of (all i) (λ k. aquifer_text (get_or start.args.aquifers k no_aquifer_figures) k))))
+    (restate c.loop-i.invariant (λ i. lines_of (all i) (λ k. aquifer_text (get_or start.args.aquifers k no_aquifer_figures) k))))
     (omega arith)

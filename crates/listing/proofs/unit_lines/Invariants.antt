@@ -1,5 +1,5 @@
 -- `listing::unit_lines` meets its contract. Assumes nothing.
-use Prim.Native.Nat.{◌≤◌, ◌-◌, ◌*◌}
+use Prim.Native.Nat.{◌*◌}
 use lib.ListN.{get_or}
 use Rattle.figures.specs.Figures.{no_unit_figures}
 use Rattle.text.specs.Text.{Written}
@@ -7,8 +7,4 @@ use Rattle.listing.specs.Listing.{lines_of, unit_text}
 use Rattle.listing.proofs.unit_lines.Given as goal
 
 abbrev pub invariant-loop-i : goal.invariant-loop-i
-invariant-loop-i l =
-    (l.i ≤ l.n) × Written (128 * l.i) l.initial.out l.initial.p (lines_of l.i (λ k. unit_text (get_or l.units k no_unit_figures) k)) l.out l.p
-
-abbrev pub decreases-loop-i : goal.decreases-loop-i
-decreases-loop-i l = l.n - l.i
+invariant-loop-i l = Written (128 * l.i) l.initial.out l.initial.p (lines_of l.i (λ k. unit_text (get_or l.units k no_unit_figures) k)) l.out l.p

@@ -7,7 +7,7 @@ use Rattle.basin.proofs.Chains.{call_holds, call_fails, both_hold, first_fails, 
 use Rattle.basin.proofs.cover.units_hold.Goals as goal
 
 pub loop-i-init : goal.loop-i-init
-loop-i-init c = (omega arith, below_none _)
+loop-i-init c = below_none _
 
 pub returns-then-not-unit_sound : goal.returns-then-not-unit_sound
 returns-then-not-unit_sound c =
@@ -22,12 +22,10 @@ returns-then-not-unit_covered c =
 
 pub loop-i-preserved : goal.loop-i-preserved
 loop-i-preserved c =
-    let sound = c in (
-      omega (arith, c.loop-i-test.true),
-      below_more _ _ c.loop-i.invariant.1
-          (both_hold _ _ (call_holds sound.unit_sound.ensures sound.if-not-unit_sound.false)
-          (call_holds c.unit_covered.ensures c.if-not-unit_covered.false)),
-    )
+    let sound = c in
+    below_more _ _ c.loop-i.invariant
+    (both_hold _ _ (call_holds sound.unit_sound.ensures sound.if-not-unit_sound.false)
+    (call_holds c.unit_covered.ensures c.if-not-unit_covered.false))
 
 pub returns : goal.returns
-returns c = sym (each_every _ _ (λ k h. c.loop-i.invariant.1 k (omega arith)))
+returns c = sym (each_every _ _ (λ k h. c.loop-i.invariant k (omega arith)))

@@ -13,7 +13,7 @@ use Rattle.basin.specs.Sound.{sound_place, sound_titles, aquifers_hold, parts_vi
 use Rattle.basin.proofs.Chains.{go, call_holds, call_fails, first_fails, stop_call, go_call}
 use Rattle.basin.proofs.Order.{units_hold_lem, aquifers_hold_lem, in_force_lem, cancelled}
 use Rattle.basin.proofs.test.entries_hold.Goals as goal
-use Rattle.basin.proofs.test.entries_hold.Goals.{After-aquifers_hold, After-loop-k, After-title_sound, Start}
+use Rattle.basin.proofs.test.entries_hold.Goals.{After-aquifers_hold, After-loop-k, After-title_sound, Start, then-in_force+else-not-title_sound, else-in_force}
 
 pub loop-k-init : goal.loop-k-init
 loop-k-init c = (omega arith, below_none _, rw c.none-sums.ensures (all_none _))
@@ -36,23 +36,23 @@ add-requires c =
     let at = c in
     all_have_room _ at.loop-k.k _ (omega (arith, at.loop-k.invariant.0, at.requires)) at.loop-k.invariant.2
 
-pub loop-k-preserved-then-in_force : goal.loop-k-preserved-then-in_force
-loop-k-preserved-then-in_force c =
-    let else = c in
-    let then = else in
-    let at = then in (
-      omega (arith, then.loop-k-test.true),
-      below_more _ _ at.loop-k.invariant.1 (call_holds (place-tested (goal.at.loop-k-preserved-then-in_force else).After-title_sound) else.if-not-title_sound.false),
-      all_more _ at.loop-k.k _ _ _ refl then.if-in_force.true at.loop-k.invariant.2 c.add.ensures,
-    )
-
 pub loop-k-preserved : goal.loop-k-preserved
 loop-k-preserved c =
-    let at = c in (
-      omega arith,
-      below_more _ _ at.loop-k.invariant.1 (cancelled at.args.n at.args.m (get_or at.args.titles at.loop-k.k empty_place) c.if-in_force.false),
-      all_kept _ at.loop-k.k _ _ refl c.if-in_force.false (omega arith) at.loop-k.invariant.2,
-    )
+    let l = c.loop-k in
+    let place = get_or c.args.titles l.k empty_place in
+    elim c.if-in_force.branch [
+      | then-in_force+else-not-title_sound w ↦
+          let tested = w.title_sound.ensures ∙ sym (in_force_lem c.args.n c.args.m place _ w.if-in_force.true refl) in (
+            omega arith,
+            below_more _ _ l.invariant.1 (call_holds tested w.if-not-title_sound.false),
+            rw w.sums-is (all_more _ l.k _ _ _ refl w.if-in_force.true l.invariant.2 w.add.ensures),
+          )
+      | else-in_force w ↦ (
+        omega arith,
+        below_more _ _ l.invariant.1 (cancelled c.args.n c.args.m place w.if-in_force.false),
+        rw w.sums-is (all_kept _ l.k _ _ refl w.if-in_force.false (omega arith) l.invariant.2),
+      )
+    ]
 
 -- The view of what was handed over.
 abbrev view : Start → View

@@ -1,5 +1,5 @@
 -- `basin::entries_hold` meets its contract. The loop's invariant: each of the first k places is sound, and they are added up. Assumes nothing.
-use Prim.Native.Nat.{ℕ, ◌≤◌, ◌<◌, ◌-◌}
+use Prim.Native.Nat.{ℕ, ◌≤◌, ◌<◌}
 use mathlib.Core.Path.{◌≡◌}
 use mathlib.Core.Bool.{true}
 use lib.ListN.{get_or}
@@ -13,7 +13,3 @@ invariant-loop-k l =
     (l.k ≤ l.given)
     × ((j : ℕ) → j < l.k → sound_place l.n l.m (get_or l.titles j empty_place) ≡ true)
     × TitledAll l.titles l.k l.sums
-
-abbrev pub decreases-loop-k : goal.decreases-loop-k
-decreases-loop-k l =
-    l.given - l.k

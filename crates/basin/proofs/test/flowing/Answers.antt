@@ -7,13 +7,13 @@ use Rattle.laws.proofs.Every.{each_every, every_fails}
 use Rattle.basin.proofs.test.flowing.Goals as goal
 
 pub loop-i-init : goal.loop-i-init
-loop-i-init c = (omega arith, below_none _)
+loop-i-init c = below_none _
 
 pub returns-then-gained-i : goal.returns-then-gained-i
 returns-then-gained-i c = sym (every_fails _ _ _ c.loop-i-test.true (lt-leb _ _ c.if-gained-i.true))
 
 pub loop-i-preserved : goal.loop-i-preserved
-loop-i-preserved c = (omega arith, below_more _ _ c.loop-i.invariant.1 (le-leb _ _ c.if-gained-i.false))
+loop-i-preserved c = below_more _ _ c.loop-i.invariant (le-leb _ _ c.if-gained-i.false)
 
 pub returns : goal.returns
-returns c = sym (each_every _ _ (λ k h. c.loop-i.invariant.1 k (omega arith)))
+returns c = sym (each_every _ _ (λ k h. c.loop-i.invariant k (omega arith)))

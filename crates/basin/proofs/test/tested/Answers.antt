@@ -1,33 +1,22 @@
 -- `basin::tested` meets its contract. Assumes nothing.
 use mathlib.Core.Path.{◌≡◌, refl, sym, ◌∙◌}
 use native.Mathlib.Omega.{arith}
-use mathlib.Core.Bool.{Bool, true, false, ◌&&◌, true≢false}
+use mathlib.Core.Bool.{Bool, true, ◌&&◌}
 use lib.ListN.{take}
-use Rattle.model.specs.declared.Balance.{Balance}
 use Rattle.model.specs.View.{View, view_of}
 use Rattle.river.specs.Flow.{Ready}
-use Rattle.river.specs.Passes.{Clear, Flows}
 use Rattle.river.specs.Units.{units_of}
-use Rattle.river.specs.declared.flow.Amounts.{Amounts}
 use Rattle.river.proofs.Units.{SameUnits, counted_units, ready_same}
-use Rattle.basin.specs.Sound.{sound_counts, entries_hold, workable, ArraysLeft}
-use Rattle.basin.proofs.Chains.{stop_call, go_call, call_holds, call_fails, both_hold, first_fails, second_fails}
+use Rattle.basin.specs.Sound.{sound, sound_counts, entries_hold}
+use Rattle.basin.proofs.Chains.{stop_call, go_call, call_holds}
 use Rattle.basin.proofs.Order.{Few, few_of, entries_ready, none_negative, in_order_lem}
 use Rattle.basin.proofs.test.tested.Goals as goal
-use Rattle.basin.proofs.test.tested.Goals.{Else-not-counts_sound, Else-not-entries_hold}
-
--- The amounts are as they were where the flows cannot be worked out, and otherwise as the forward pass leaves them.
-module _ (b : Balance) (a : Amounts) where
-  untouched : Clear a → workable (view_of b) ≡ false → ArraysLeft b a
-  untouched p e = record { passed = λ q. absurd (true≢false (sym q ∙ e)); clear = λ q. p }
-
-  passed_over : Flows (units_of (take b.unit_count b.units)) a → workable (view_of b) ≡ true → ArraysLeft b a
-  passed_over f e = record { passed = λ q. f; clear = λ q. absurd (true≢false (sym e ∙ q)) }
+use Rattle.basin.proofs.test.tested.Goals.{Else-not-counts_sound, Else-not-entries_hold, After-flowing}
 
 pub returns-then-not-counts_sound : goal.returns-then-not-counts_sound
 returns-then-not-counts_sound c = record {
   value = in_order_lem _ _ (stop_call _ _ _ c.counts_sound.ensures c.if-not-counts_sound.true);
-  arrays_left = untouched _ _ c.requires (first_fails _ _ (call_fails c.counts_sound.ensures c.if-not-counts_sound.true));
+  amounts = tt;
 }
 
 -- The view of the balance, and that the counts are within their limits.
@@ -53,8 +42,7 @@ pub returns-then-not-entries_hold : goal.returns-then-not-entries_hold
 returns-then-not-entries_hold c = record {
   value = in_order_lem _ _
       (past-counts (goal.at.returns-then-not-entries_hold c).Else-not-counts_sound _ _ (stop_call _ _ _ c.entries_hold.ensures c.if-not-entries_hold.true));
-  arrays_left = untouched _ _ c.requires
-      (second_fails _ _ (counts-hold (goal.at.returns-then-not-entries_hold c).Else-not-counts_sound) (call_fails c.entries_hold.ensures c.if-not-entries_hold.true));
+  amounts = tt;
 }
 
 -- The same where the entries hold.
@@ -75,18 +63,23 @@ same c =
 pub flow-requires : goal.flow-requires
 flow-requires c =
     let here = (goal.at.flow-requires c).Else-not-entries_hold in
-    record { ready = ready_same _ _ (same here) (ready here); clear = c.requires }
+    record { ready = ready_same _ _ (same here) (ready here); clear = c.none-amounts.ensures }
 
 pub flowing-requires : goal.flowing-requires
 flowing-requires c = (ready (goal.at.flowing-requires c).Else-not-entries_hold).few
 
+-- The test of the flows, by what the forward pass gives.
+tested-flows : (c : After-flowing) → c.flowing.result ≡ sound (held (goal.at.After-flowing c).Else-not-entries_hold)
+tested-flows c =
+    let here = (goal.at.After-flowing c).Else-not-entries_hold in
+    in_order_lem _ _
+    (past-counts (goal.at.After-flowing c).Else-not-counts_sound _ _
+    (go_call _ _ _ _ c.entries_hold.ensures c.if-not-entries_hold.false
+    (c.flowing.ensures ∙ none_negative _ _ (same here) _ _ c.flow.ensures.gained c.flow.ensures.lost)))
+
+pub returns-then-not-flowing : goal.returns-then-not-flowing
+returns-then-not-flowing c =
+    record { value = sym c.if-not-flowing.true ∙ tested-flows (goal.at.returns-then-not-flowing c).After-flowing; amounts = tt }
+
 pub returns : goal.returns
-returns c =
-    let flows = c.flow.ensures in
-    let else = c in record {
-      value = in_order_lem _ _
-          (past-counts (goal.at.returns else).Else-not-counts_sound _ _
-          (go_call _ _ _ _ else.entries_hold.ensures else.if-not-entries_hold.false
-          (c.flowing.ensures ∙ none_negative _ _ (same (goal.at.returns else).Else-not-entries_hold) _ _ flows.gained flows.lost)));
-      arrays_left = passed_over _ _ flows (both_hold _ _ (counts-hold (goal.at.returns else).Else-not-counts_sound) (entries-held (goal.at.returns else).Else-not-entries_hold));
-    }
+returns c = record { value = sym c.if-not-flowing.false ∙ tested-flows (goal.at.returns c).After-flowing; amounts = c.flow.ensures }

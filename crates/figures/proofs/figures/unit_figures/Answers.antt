@@ -11,7 +11,7 @@ use Rattle.figures.specs.declared.UnitFigures.{UnitFigures}
 use Rattle.figures.specs.Figures.{unit_figures, no_unit_figures}
 use Rattle.figures.proofs.Units.{figures_from_lem}
 use Rattle.figures.proofs.figures.unit_figures.Goals as goal
-use Rattle.figures.proofs.figures.unit_figures.Goals.{in-Some, in_default, After-contribution-own, In-loop-i, Joined-checked_sub}
+use Rattle.figures.proofs.figures.unit_figures.Goals.{in-None, in-Some, After-contribution-own, In-loop-i, Joined-checked_sub}
 
 pub loop-i-init : goal.loop-i-init
 loop-i-init c =
@@ -53,13 +53,13 @@ volume_is c =
     let r = c.requires.ready in
     let h = passed (goal.at.Joined-checked_sub c).In-loop-i in
     elim c.match-checked_sub.branch [
+      | in-None w ↦ w.committed-is ∙ w.from-committed.ensures ∙ sym (committed_outlet v j (omega (arith, c.from.ensures, w.in-None.ensures)))
       | in-Some w ↦
           let k = w.in-Some.k in
           let b = onward_of v r j k h (omega (arith, c.from.ensures, w.in-Some.ensures)) in
           let s = share_of v r c.args.amounts.now c.requires.flows j k h b _ _
           (ap (λ (x : UnitFigures). x.committed) (c.loop-i.invariant.done k (omega (arith, b.later)) b.within)) w.contribution-own.ensures in
           w.committed-is ∙ w.from_below-committed.ensures ∙ s.gets
-      | in_default w ↦ w.committed-is ∙ c.from-committed.ensures ∙ sym (committed_outlet v j (omega (arith, c.from.ensures, w.in_default.ensures)))
     ]
 
 pub of_unit-requires : goal.of_unit-requires

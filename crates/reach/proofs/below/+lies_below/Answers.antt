@@ -20,7 +20,7 @@ step t c = below_step (units_of c.args.units.now) c.requires.0 c.args.u c.in-Som
 pub lies_below-requires : goal.lies_below-requires
 lies_below-requires t c =
     let b = onward_of (units_of c.args.units.now) c.requires.0 c.args.u c.in-Some.next c.requires.1 (next t (goal.at.lies_below-requires t c).In-Some) in
-    (omega (arith, b.later, c.decreases), (c.requires.0, b.within))
+    (omega (arith, b.later, b.within, c.requires.0.few, c.decreases), (c.requires.0, b.within))
 
 pub returns-in-None : goal.returns-in-None
 returns-in-None t c = sym (below_none (units_of c.args.units.now) c.args.u c.args.w (omega (arith, c.from.ensures, c.in-None.ensures)))
