@@ -9,6 +9,7 @@ ghost use Rattle.book.specs.Reading.{opened};
 ghost use Rattle.dashboard.specs.Table as tables;
 
 use calls::Ran;
+use calls::tested::run_tested;
 use figures::{AquiferFigures, UnitFigures};
 use model::Balance;
 use report::ROOM;
@@ -34,21 +35,19 @@ pub fn hasheqro_print(book: &[u8], out: &mut [u8; ROOM]) -> usize
     listing::print_book(book, out)
 }
 
-// The table of a balance.
+// The table of a balance. Numbers of the size of the machine are cast: they have no `From` to those of 64 bits.
 fn table_of(accepted: bool, number: u8, place: usize, b: Balance) -> Table
     ensures { result ≡ tables.table_of accepted number place b }
 {
-    let unit_count = b.unit_count as u64;
-    let aquifer_count = b.aquifer_count as u64;
-    let f = basin::reply::figures(b);
-    let units = f.units;
-    let aquifers = f.aquifers;
+    let figures = basin::reply::figures(b);
+    let units = figures.units;
+    let aquifers = figures.aquifers;
     Table {
         accepted,
         number,
         place: place as u64,
-        unit_count,
-        aquifer_count,
+        unit_count: b.unit_count as u64,
+        aquifer_count: b.aquifer_count as u64,
         units,
         aquifers,
     }
@@ -68,59 +67,43 @@ fn table_after(ran: Ran) -> Table
 pub fn hasheqro_figures(book: &[u8]) -> Table
     ensures { result ≡ tables.book_table book.now }
 {
-    let o = book::read_book(book);
-    let answer = o.answer;
-    let place = o.place;
-    let balance = o.balance;
-    match answer {
-        Ok(()) => table_after(calls::tested::run_tested(book, place, balance, true)),
-        Err(refusal) => table_of(false, refusal.number(), place, balance),
+    let opened = book::read_book(book);
+    match opened.answer {
+        Ok(()) => table_after(run_tested(book, opened.place, opened.balance, true)),
+        Err(refusal) => table_of(false, refusal.number(), opened.place, opened.balance),
     }
 }
 
-// The place that opening a book returns.
+// The place that opening a book returns, cast as in `table_of`.
 pub fn hasheqro_open(book: &[u8]) -> u64
     ensures { result ≡ (opened book.now).place }
 {
-    let o = book::read_book(book);
-    o.place as u64
+    book::read_book(book).place as u64
 }
 
 // The balance of a book after its calls; of a refused description the fresh one.
 fn balance_after(book: &[u8]) -> Balance
     ensures { result ≡ tables.balance_after book.now }
 {
-    let o = book::read_book(book);
-    let answer = o.answer;
-    let place = o.place;
-    let balance = o.balance;
-    match answer {
-        Ok(()) => {
-            let ran = calls::tested::run_tested(book, place, balance, true);
-            ran.balance
-        }
-        Err(_) => balance,
+    let opened = book::read_book(book);
+    match opened.answer {
+        Ok(()) => run_tested(book, opened.place, opened.balance, true).balance,
+        Err(_) => opened.balance,
     }
 }
 
-// How many title numbers are given after the calls of a book.
+// How many title numbers are given after the calls of a book, cast as in `table_of`.
 pub fn hasheqro_run(book: &[u8]) -> u64
     ensures { result ≡ (tables.balance_after book.now).given }
 {
-    let b = balance_after(book);
-    b.given as u64
+    balance_after(book).given as u64
 }
 
 // 1 if the figures of a balance are given, 0 if they are refused.
 fn figured(b: Balance) -> u64
     ensures { result ≡ tables.figured b }
 {
-    let f = basin::reply::figures(b);
-    let answer = f.answer;
-    match answer {
-        Ok(()) => 1,
-        Err(_) => 0,
-    }
+    u64::from(basin::reply::figures(b).answer.is_ok())
 }
 
 // Works out the figures of a book after its calls so many times, to be timed, and counts how often they are given.

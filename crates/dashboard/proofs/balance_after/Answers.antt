@@ -3,5 +3,5 @@ use Rattle.std.proofs.Common.{sym}
 use Rattle.book.proofs.Promises.{opened_sound}
 use Rattle.dashboard.proofs.balance_after.Goals as goal
 
-pub run_tested-ran-requires : goal.run_tested-ran-requires
-run_tested-ran-requires c = sym (opened_sound c.args.book.now _ c.read_book-o.ensures)
+pub run_tested-requires : goal.run_tested-requires
+run_tested-requires c = sym (opened_sound c.args.book.now _ c.read_book-opened.ensures)
