@@ -2,7 +2,6 @@
 use Prim.Native.Nat.{ℕ, ◌≤◌}
 use mathlib.Core.Path.{◌≡◌, refl, sym, ap₂, ◌∙◌}
 use mathlib.Core.Bool.{Bool, true, false, not, ◌&&◌, true≢false}
-use mathlib.Core.List.{List, ◌∷◌}
 use lib.Dec.{leb, leb-suc-suc}
 use lib.IntN.{ℤ, pos, negsuc, neg_ℤ}
 use lib.Signed.{le_z}
@@ -11,24 +10,24 @@ use Rattle.laws.specs.Signed.{above, below}
 use Rattle.laws.proofs.Chain.{t_and}
 use Rattle.laws.proofs.Every.{both}
 use Rattle.model.specs.Limits.{term_limit}
-use Rattle.model.specs.Ranges.{is_term, are_terms, is_storage}
+use Rattle.model.specs.Ranges.{is_term, is_storage}
 
 -- A test whose opposite fails holds.
 pub holds : (t : Bool) → not t ≡ false → t ≡ true
 holds true e = refl
 holds false e = absurd (true≢false e)
 
--- The first of some terms, and the others.
-pub record FirstWithin (x : ℕ) (xs : List ℕ) : Type 0 where
+-- The first of some terms, and the test of the others.
+pub record FirstWithin (x : ℕ) (others : Bool) : Type 0 where
   pub first : x ≤ term_limit
-  pub rest : are_terms xs ≡ true
+  pub rest : others ≡ true
 
-pub first_within : (x : ℕ) (xs : List ℕ) → are_terms (x ∷ xs) ≡ true → FirstWithin x xs
-first_within x xs e =
-    let p = both (is_term x) (are_terms xs) e in record { first = leb-true x term_limit p.0; rest = p.1 }
+pub first_within : (x : ℕ) (others : Bool) → is_term x && others ≡ true → FirstWithin x others
+first_within x others e =
+    let p = both (is_term x) others e in record { first = leb-true x term_limit p.0; rest = p.1 }
 
-pub within_first : (x : ℕ) (xs : List ℕ) → x ≤ term_limit → are_terms xs ≡ true → are_terms (x ∷ xs) ≡ true
-within_first x xs h e = t_and (is_term x) (are_terms xs) (le-leb x term_limit h) e
+pub within_first : (x : ℕ) (others : Bool) → x ≤ term_limit → others ≡ true → is_term x && others ≡ true
+within_first x others h e = t_and (is_term x) others (le-leb x term_limit h) e
 
 -- A storage change is in its range if neither of its parts is above the term limit.
 storage_low : (z : ℤ) → le_z (neg_ℤ (pos term_limit)) z ≡ leb (below z) term_limit
