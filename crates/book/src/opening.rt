@@ -7,7 +7,7 @@ ghost use Rattle.record.specs.Fault.{Closed};
 ghost use Rattle.book.specs.Reading as reading;
 ghost use Rattle.book.specs.Opening as opening;
 
-use crate::step::next;
+use crate::step::Reader;
 use crate::{Next, Opened};
 use model::{Balance, Refusal};
 use record::{Failure, Progress, UnitRecord, closing_fault, located, unit_of};
@@ -108,7 +108,12 @@ fn read(s: &[u8]) -> Result<Opened, Failure>
     };
     let mut at = 0;
     for _ in 0..s.len() + 1 {
-        match next(&p, s, at)? {
+        let reader = Reader {
+            book: s,
+            at,
+            progress: p,
+        };
+        match reader.next()? {
             Next::Ends => return ended(b, &p, at),
             Next::Opens { unit, to } => {
                 store(&mut b, &p);
