@@ -20,7 +20,7 @@ use model::{Answer, Call, Refusal};
 
 // A unit as its book describes it: the offset of its UN mark, the fields of its UN, and of the records after it how many soil records
 // there are, their hectares and weighted hectares, how many years there are and their sum (rain years in 6,000,000,000ths).
-#[derive(Clone, Copy)]
+#[derive(Clone, Copy, Default)]
 pub struct UnitRecord {
     pub at: usize,
     pub downstream: u8,
@@ -39,7 +39,7 @@ pub struct UnitRecord {
 }
 
 // How far a description is read: how many units and aquifers there are, and the open unit, which is the last.
-#[derive(Clone, Copy)]
+#[derive(Clone, Copy, Default)]
 pub struct Progress {
     pub units: usize,
     pub aquifers: usize,
