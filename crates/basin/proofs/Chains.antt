@@ -1,10 +1,7 @@
 -- Chains of tests: a function that returns false at the first test that fails, against the conjunction of the tests. Assumes nothing.
-use Prim.Native.Nat.{ℕ, ◌≤◌, ◌<◌}
 use mathlib.Core.Path.{◌≡◌, refl, sym, ◌∙◌}
 use mathlib.Core.Logic.{◌⊎◌, inl, inr}
 use mathlib.Core.Bool.{Bool, true, false, ◌&&◌, ◌||◌}
-use lib.Dec.{leb, eqb}
-use borrow.Author.Tests.{le-leb, lt-leb, eq-eqb, ne_eqb}
 
 -- A test that fails ends the chain, and one that holds leaves the rest of it.
 stop : (t x : Bool) → t ≡ false → false ≡ (t && x)
@@ -12,13 +9,6 @@ stop t x e = rw e
 
 pub go : (t x r : Bool) → t ≡ true → r ≡ x → r ≡ (t && x)
 go t x r e h = rw e h
-
--- The same of a comparison.
-pub stop_leb : (a b : ℕ) (x : Bool) → b < a → false ≡ (leb a b && x)
-stop_leb a b x h = stop (leb a b) x (lt-leb a b h)
-
-pub go_leb : (a b : ℕ) (x r : Bool) → a ≤ b → r ≡ x → r ≡ (leb a b && x)
-go_leb a b x r h e = go (leb a b) x r (le-leb a b h) e
 
 -- What a call's test says of the test that it made.
 pub call_holds : {s t : Bool} → s ≡ t → s ≡ true → t ≡ true
@@ -56,12 +46,3 @@ first_holds s t e = rw e
 pub second_holds : (s t : Bool) → t ≡ true → (s || t) ≡ true
 second_holds true t e = refl
 second_holds false t e = e
-
--- A disjunction: the first of two tests holds, or the second decides.
-pub one_eqb : (a b : ℕ) (x : Bool) → a ≡ b → true ≡ (eqb a b || x)
-one_eqb a b x e = rw (eq-eqb a b e)
-
-pub other_eqb : (a b : ℕ) (x r : Bool) → (a ≡ b → ⊥) → r ≡ x → r ≡ (eqb a b || x)
-other_eqb a b x r h e = rw (ne_eqb a b h) e
-
-pub ruleset chain = (stop_leb, go_leb, stop_call, go_call, one_eqb, other_eqb)

@@ -1,5 +1,6 @@
 -- What a sound balance is, fact by fact, and back: `sound v` is true exactly where `Soundness v` holds. Assumes nothing.
-use Prim.Native.Nat.{ℕ, suc, ◌≤◌, ◌<◌}
+use Prim.Native.Nat.{ℕ, suc, ◌+◌, ◌≤◌, ◌<◌}
+use mathlib.Core.List.{[], ◌∷◌}
 use mathlib.Core.Path.{◌≡◌, refl, ap}
 use mathlib.Core.Logic.{◌⊎◌, inl, inr, ⊎_elim}
 use mathlib.Core.Bool.{true, not, ◌&&◌}
@@ -18,15 +19,17 @@ use Rattle.model.specs.declared.Place.{Place}
 use Rattle.model.specs.Fresh.{fresh_balance}
 use Rattle.model.specs.View.{View, view_of}
 use Rattle.model.specs.Limits.{term_limit}
+use Rattle.model.specs.Ranges.{is_onward, are_terms, aquifer_within}
 use Rattle.river.specs.Flow.{flow, Ready}
 use Rattle.river.specs.Wells.{recharge}
+use Rattle.figures.specs.Recharge.{is_recharged}
 use Rattle.figures.specs.Figures.{WellsReady}
 use Rattle.titles.specs.Adds.{titled}
 use Rattle.titles.specs.declared.Slot.TheVariants.{Extraction, Exports, Imports, Returns, WellExtraction}
 use Rattle.basin.specs.Sound
 use Rattle.laws.proofs.Every.{both, every_each, each_every}
 use Rattle.basin.proofs.Chains.{both_hold, either, first_holds, second_holds}
-use Rattle.basin.proofs.Ranges.{storage_within, within_storage}
+use Rattle.model.proofs.Within.{first_within, within_first, storage_within, within_storage}
 
 -- The unit at index j, of so many.
 pub record UnitSound (count j : ℕ) (u : Unit) : Type 0 where
@@ -93,17 +96,17 @@ pub record Soundness (v : View) : Type 0 where
 -- Units.
 downstream_onward : (count j d : ℕ) → Sound.is_downstream count j d ≡ true → (d ≡ 0) ⊎ ((suc j < d) × (d ≤ count))
 downstream_onward count j d e =
+    let p = both (is_onward (j + 1) d) (leb d count) e in
     ⊎_elim
     (λ q. inl (eqb-true d 0 q))
-    (λ q. let p = both (ltb (suc j) d) (leb d count) q in inr (ltb-true (suc j) d p.0, leb-true d count p.1))
-    (either (eqb d 0) (ltb (suc j) d && leb d count) e)
+    (λ q. let h = ltb-true (j + 1) d q in inr (omega arith, leb-true d count p.1))
+    (either (eqb d 0) (ltb (j + 1) d) p.0)
 
 onward_downstream : (count j d : ℕ) → (d ≡ 0) ⊎ (suc j < d) → d ≤ count → Sound.is_downstream count j d ≡ true
 onward_downstream count j d o h =
-    ⊎_elim
-    (λ e. first_holds (eqb d 0) _ (eq-eqb d 0 e))
-    (λ g. second_holds (eqb d 0) _ (both_hold (ltb (suc j) d) (leb d count) (lt-ltb (suc j) d g) (le-leb d count h)))
-    o
+    both_hold (is_onward (j + 1) d) (leb d count)
+    (⊎_elim (λ e. first_holds (eqb d 0) _ (eq-eqb d 0 e)) (λ g. second_holds (eqb d 0) _ (lt-ltb (j + 1) d (omega arith))) o)
+    (le-leb d count h)
 
 committed_outlet : (d x : ℕ) → Sound.is_committed d x ≡ true → (d ≡ 0) ⊎ (x ≡ 0)
 committed_outlet d x e = ⊎_elim (λ q. inl (eqb-true d 0 q)) (λ q. inr (eqb-true x 0 q)) (either (eqb d 0) (eqb x 0) e)
@@ -117,23 +120,24 @@ unit_sound_lem count j u e =
     let p = both (Sound.sound_entries u) _ e in
     let q = both (Sound.is_storage u.storage) _ p.1 in
     let r = both (Sound.is_downstream count j u.downstream) _ q.1 in
-    let a = both (Sound.is_term u.extraction) _ p.0 in
-    let b = both (Sound.is_term u.exports) _ a.1 in
-    let c = both (Sound.is_term u.imports) _ b.1 in
-    let d = both (Sound.is_term u.returns) _ c.1 in
-    let f = both (Sound.is_term u.evaporation) _ d.1 in
-    let g = both (Sound.is_term u.commitment) _ f.1 in
+    let a = first_within u.extraction _ p.0 in
+    let b = first_within u.exports _ a.rest in
+    let c = first_within u.imports _ b.rest in
+    let d = first_within u.returns _ c.rest in
+    let f = first_within u.evaporation _ d.rest in
+    let g = first_within u.commitment _ f.rest in
+    let z = storage_within u.storage q.0 in
     let o = downstream_onward count j u.downstream r.0 in
     record {
-      extraction = leb-true u.extraction term_limit a.0;
-      exports = leb-true u.exports term_limit b.0;
-      imports = leb-true u.imports term_limit c.0;
-      returns = leb-true u.returns term_limit d.0;
-      evaporation = leb-true u.evaporation term_limit f.0;
-      rise = (storage_within u.storage q.0).1;
-      fall = (storage_within u.storage q.0).0;
-      commitment = leb-true u.commitment term_limit g.0;
-      runoff = leb-true u.runoff term_limit g.1;
+      extraction = a.first;
+      exports = b.first;
+      imports = c.first;
+      returns = d.first;
+      evaporation = f.first;
+      rise = z.rise;
+      fall = z.fall;
+      commitment = g.first;
+      runoff = (first_within u.runoff _ g.rest).first;
       onward = ⊎_elim (λ z. inl z) (λ w. inr w.0) o;
       within = ⊎_elim (λ z. omega arith) (λ w. w.1) o;
       outlet = committed_outlet u.downstream u.commitment r.1;
@@ -142,13 +146,13 @@ unit_sound_lem count j u e =
 pub sound_unit_lem : (count j : ℕ) (u : Unit) → UnitSound count j u → Sound.sound_unit count j u ≡ true
 sound_unit_lem count j u f =
     both_hold (Sound.sound_entries u) _
-    (both_hold (leb u.extraction term_limit) _ (le-leb u.extraction term_limit f.extraction)
-    (both_hold (leb u.exports term_limit) _ (le-leb u.exports term_limit f.exports)
-    (both_hold (leb u.imports term_limit) _ (le-leb u.imports term_limit f.imports)
-    (both_hold (leb u.returns term_limit) _ (le-leb u.returns term_limit f.returns)
-    (both_hold (leb u.evaporation term_limit) _ (le-leb u.evaporation term_limit f.evaporation)
-    (both_hold (leb u.commitment term_limit) _ (le-leb u.commitment term_limit f.commitment)
-    (le-leb u.runoff term_limit f.runoff)))))))
+    (within_first u.extraction _ f.extraction
+    (within_first u.exports _ f.exports
+    (within_first u.imports _ f.imports
+    (within_first u.returns _ f.returns
+    (within_first u.evaporation _ f.evaporation
+    (within_first u.commitment _ f.commitment
+    (within_first u.runoff _ f.runoff refl)))))))
     (both_hold (Sound.is_storage u.storage) _ (within_storage u.storage f.fall f.rise)
     (both_hold (Sound.is_downstream count j u.downstream) _ (onward_downstream count j u.downstream f.onward f.within)
     (outlet_committed u.downstream u.commitment f.outlet)))
@@ -168,28 +172,32 @@ ready_of v h f =
 -- Aquifers.
 pub aquifer_sound_lem : (a : Aquifer) → Sound.sound_aquifer a ≡ true → AquiferSound a
 aquifer_sound_lem a e =
-    let p = both (Sound.is_term a.natural) _ e in
-    let q = both (Sound.is_term a.pumped) _ p.1 in
-    let r = both (Sound.is_term a.committed) _ q.1 in
-    let s = both (Sound.is_term a.extraction) _ r.1 in
-    let t = both (Sound.is_storage a.storage) _ s.1 in
+    let p = both (aquifer_within a) (is_recharged a) e in
+    let q = both (are_terms (a.natural ∷ a.pumped ∷ a.committed ∷ a.extraction ∷ [])) (Sound.is_storage a.storage) p.0 in
+    let n = first_within a.natural _ q.0 in
+    let m = first_within a.pumped _ n.rest in
+    let c = first_within a.committed _ m.rest in
+    let z = storage_within a.storage q.1 in
     record {
-      rise = (storage_within a.storage t.0).1;
-      fall = (storage_within a.storage t.0).0;
-      natural = leb-true a.natural term_limit p.0;
-      pumped = leb-true a.pumped term_limit q.0;
-      committed = leb-true a.committed term_limit r.0;
-      extraction = leb-true a.extraction term_limit s.0;
-      recharged = t.1;
+      rise = z.rise;
+      fall = z.fall;
+      natural = n.first;
+      pumped = m.first;
+      committed = c.first;
+      extraction = (first_within a.extraction _ c.rest).first;
+      recharged = p.1;
     }
 
 pub sound_aquifer_lem : (a : Aquifer) → AquiferSound a → Sound.sound_aquifer a ≡ true
 sound_aquifer_lem a f =
-    both_hold (leb a.natural term_limit) _ (le-leb a.natural term_limit f.natural)
-    (both_hold (leb a.pumped term_limit) _ (le-leb a.pumped term_limit f.pumped)
-    (both_hold (leb a.committed term_limit) _ (le-leb a.committed term_limit f.committed)
-    (both_hold (leb a.extraction term_limit) _ (le-leb a.extraction term_limit f.extraction)
-    (both_hold (Sound.is_storage a.storage) _ (within_storage a.storage f.fall f.rise) f.recharged))))
+    both_hold (aquifer_within a) (is_recharged a)
+    (both_hold (are_terms (a.natural ∷ a.pumped ∷ a.committed ∷ a.extraction ∷ [])) (Sound.is_storage a.storage)
+    (within_first a.natural _ f.natural
+    (within_first a.pumped _ f.pumped
+    (within_first a.committed _ f.committed
+    (within_first a.extraction _ f.extraction refl))))
+    (within_storage a.storage f.fall f.rise))
+    f.recharged
 
 -- A view of so few aquifers, each of them sound, can be worked out.
 pub wells_ready_of : (v : View) → v.aquifers ≤ 32 → ((j : ℕ) → j < v.aquifers → AquiferSound (v.aquifer j)) → WellsReady v

@@ -1,7 +1,7 @@
 -- The test for 0 (document 01, "What each operation refuses"; document 02 [2]): a call gives 0 if the balance handed to it is not sound.
 -- Assumes nothing.
-use Rattle.std.specs.Prelude.{ℕ, suc, Bool, not, ◌&&◌, ◌||◌, List, eqb, leb, ltb, ℤ, pos, neg_ℤ, get_or}
-use Rattle.std.specs.Int.Signed.{le_z, non_neg}
+use Rattle.std.specs.Prelude.{ℕ, ◌+◌, Bool, not, ◌&&◌, ◌||◌, List, [], ◌∷◌, leb, ltb, get_or}
+use Rattle.std.specs.Int.Signed.{non_neg}
 use Rattle.laws.specs.Sum.{every}
 use Rattle.model.specs.declared.Unit.{Unit}
 use Rattle.model.specs.declared.Aquifer.{Aquifer}
@@ -10,32 +10,23 @@ use Rattle.model.specs.declared.Title.TheVariants.{UnitWithdrawal, AquiferWithdr
 use Rattle.model.specs.declared.Place.{Place}
 use Rattle.model.specs.Fresh.{empty_unit, empty_aquifer, empty_place}
 use Rattle.model.specs.View.{View}
-use Rattle.model.specs.Limits.{unit_limit, aquifer_limit, title_limit, term_limit}
+use Rattle.model.specs.Limits.{unit_limit, aquifer_limit, title_limit}
+use Rattle.model.specs.Ranges.{is_onward, are_terms, aquifer_within}
 use Rattle.river.specs.Flow.{flow}
-use Rattle.river.specs.Wells.{recharge}
+use Rattle.figures.specs.Recharge.{is_recharged}
 use Rattle.titles.specs.Adds.{titled}
 use Rattle.titles.specs.declared.Slot.TheVariants.{Extraction, Exports, Imports, Returns, WellExtraction}
-
--- A term runs from 0 to 10,000,000, a storage change from −10,000,000 to 10,000,000.
-abbrev pub is_term : ℕ → Bool
-is_term x = leb x term_limit
-
-abbrev pub is_storage : ℤ → Bool
-is_storage z = le_z (neg_ℤ (pos term_limit)) z && le_z z (pos term_limit)
+-- A term runs from 0 to 10,000,000, a storage change from −10,000,000 to 10,000,000, and only an outlet has a commitment.
+pub use Rattle.model.specs.Ranges.{is_term, is_storage, is_committed}
 
 -- A downstream number is 0, or above the unit's own number and at most the last unit's.
 abbrev pub is_downstream : ℕ → ℕ → ℕ → Bool
-is_downstream count j d = eqb d 0 || (ltb (suc j) d && leb d count)
-
--- Only an outlet has a commitment.
-abbrev pub is_committed : ℕ → ℕ → Bool
-is_committed d x = eqb d 0 || eqb x 0
+is_downstream count j d = is_onward (j + 1) d && leb d count
 
 -- Each volume among a unit's entries is a term.
 abbrev pub sound_entries : Unit → Bool
 sound_entries u =
-    is_term u.extraction && (is_term u.exports && (is_term u.imports && (is_term u.returns && (is_term u.evaporation
-    && (is_term u.commitment && is_term u.runoff)))))
+    are_terms (u.extraction ∷ u.exports ∷ u.imports ∷ u.returns ∷ u.evaporation ∷ u.commitment ∷ u.runoff ∷ [])
 
 -- Each entry of a unit is in its range, its downstream number is sound, and only an outlet has a commitment.
 abbrev pub sound_unit : ℕ → ℕ → Unit → Bool
@@ -44,9 +35,7 @@ sound_unit count j u =
 
 -- Each entry of an aquifer is in its range, and its recharge is not negative.
 abbrev pub sound_aquifer : Aquifer → Bool
-sound_aquifer a =
-    is_term a.natural && (is_term a.pumped && (is_term a.committed && (is_term a.extraction
-    && (is_storage a.storage && non_neg (recharge a)))))
+sound_aquifer a = aquifer_within a && is_recharged a
 
 -- A number from 1 to the last.
 abbrev pub exists : ℕ → ℕ → Bool

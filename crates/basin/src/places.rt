@@ -2,7 +2,7 @@
 ghost use Rattle.std.specs.Prelude.{◌≡◌, ◌&&◌};
 ghost use Rattle.basin.specs.Sound as sounds;
 
-use model::{Balance, Title};
+use model::{Title, is_term};
 
 // A number from 1 to the last.
 pub fn exists(last: usize, number: u8) -> bool
@@ -15,10 +15,11 @@ pub fn exists(last: usize, number: u8) -> bool
 pub fn is_volume(volume: u32) -> bool
     ensures { result ≡ sounds.is_volume volume }
 {
-    0 < volume && volume <= Balance::TERM
+    0 < volume && is_term(volume)
 }
 
-// A title's units, aquifers and use exist, and its volume is in its range.
+// A title's units, aquifers and use exist, and its volume is in its range. The answer stays a truth value: the test for 0 asks for no more,
+// and the register names the refusal of each part of a call by itself.
 pub fn title_sound(t: Title, units: usize, aquifers: usize) -> bool
     ensures { result ≡ sounds.sound_title units aquifers t }
 {

@@ -90,7 +90,7 @@ well_is_sound a f =
       pumped = f.within.pumped;
       committed = f.within.committed;
       extraction = f.within.extraction;
-      recharged = parts_non_neg (recharge a) (sym (below_pos (recharge a) f.recharged));
+      recharged = f.recharged;
     }
 
 module _ (d : Description) (good : Good d) where

@@ -2,15 +2,14 @@
 ghost use Rattle.std.specs.Prelude.{◌≡◌, ◌≤◌, ◌<◌};
 ghost use Rattle.model.specs.View.{view_of};
 ghost use Rattle.model.specs.Limits.{unit_limit};
-ghost use Rattle.record.specs.Record as records;
 ghost use Rattle.record.specs.Fault.{Closed};
 ghost use Rattle.book.specs.Reading as reading;
 ghost use Rattle.book.specs.Opening as opening;
 
-use crate::step::next;
+use crate::step::Reader;
 use crate::{Next, Opened};
 use model::{Balance, Refusal};
-use record::{Failure, Progress, UnitRecord, closing_fault, located, unit_of};
+use record::{Failure, Progress, closing_fault, located, unit_of};
 
 // Puts the open unit, if there is one, into the balance.
 fn store(b: &mut Balance, p: &Progress)
@@ -74,41 +73,20 @@ fn ended(mut b: Balance, p: &Progress, at: usize) -> Result<Opened, Failure>
     tested(b, at)
 }
 
-// The sums before the first UN.
-fn no_sums() -> UnitRecord
-    ensures { result ≡ records.no_sums }
-{
-    UnitRecord {
-        at: 0,
-        downstream: 0,
-        extraction: 0,
-        exports: 0,
-        imports: 0,
-        returns: 0,
-        evaporation: 0,
-        storage: 0,
-        commitment: 0,
-        soils: 0,
-        hectares: 0,
-        weighted: 0,
-        years: 0,
-        sum: 0,
-    }
-}
-
 // Reads the description of a book record by record into a balance, to its end or to the first refusal.
 fn read(s: &[u8]) -> Result<Opened, Failure>
     ensures { opening.handed_back result ≡ reading.opened s.now }
 {
     let mut b = Balance::fresh();
-    let mut p = Progress {
-        units: 0,
-        aquifers: 0,
-        open: no_sums(),
-    };
+    let mut p = Progress::default();
     let mut at = 0;
     for _ in 0..s.len() + 1 {
-        match next(&p, s, at)? {
+        let reader = Reader {
+            book: s,
+            at,
+            progress: p,
+        };
+        match reader.next()? {
             Next::Ends => return ended(b, &p, at),
             Next::Opens { unit, to } => {
                 store(&mut b, &p);

@@ -1,2 +1,3 @@
 -- The figures of all units and aquifers of a balance.
 pub mod Figures
+pub mod Recharge

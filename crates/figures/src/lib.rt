@@ -2,8 +2,10 @@
 #![tactic(auto)]
 
 mod figures;
+mod recharge;
 
 pub use figures::{aquifer_figures, of_aquifer, of_units, unit_figures};
+pub use recharge::is_recharged;
 
 // The four figures of a unit.
 #[repr(C)]

@@ -4,3 +4,4 @@ pub mod Entries
 pub mod View
 pub mod Answers
 pub mod Limits
+pub mod Ranges

@@ -6,9 +6,13 @@ ghost use Rattle.model.specs.Fresh as fresh;
 ghost use Rattle.model.specs.Answers as answers;
 ghost use Rattle.model.specs.Entries as entries;
 
+mod ranges;
+
+pub use ranges::{are_terms, is_committed, is_onward, is_storage, is_term};
+
 // A basin unit: the number of its downstream unit (0 for an outlet), its entries with its titles in, and its natural runoff.
 // All volumes are thousand m³; a rise of storage is positive.
-#[derive(Clone, Copy)]
+#[derive(Clone, Copy, Default)]
 pub struct Unit {
     pub downstream: u8,
     pub extraction: u32,
@@ -22,7 +26,7 @@ pub struct Unit {
 }
 
 // An aquifer: storage change, natural and pumped discharge, committed natural discharge, and titled extraction in all.
-#[derive(Clone, Copy)]
+#[derive(Clone, Copy, Default)]
 pub struct Aquifer {
     pub storage: i64,
     pub natural: u32,
@@ -152,6 +156,7 @@ impl Title {
 
 impl Refusal {
     // The number that the paper gives the refusal.
+    // The cast reads the variants' own numbers: a `match` of 24 arms would list them a second time.
     pub fn number(self) -> u8
         ensures { result ≡ answers.number self }
     {
@@ -164,17 +169,7 @@ impl Unit {
     pub fn empty() -> Self
         ensures { result ≡ fresh.empty_unit }
     {
-        Unit {
-            downstream: 0,
-            extraction: 0,
-            exports: 0,
-            imports: 0,
-            returns: 0,
-            evaporation: 0,
-            storage: 0,
-            commitment: 0,
-            runoff: 0,
-        }
+        Unit::default()
     }
 }
 
@@ -183,12 +178,21 @@ impl Aquifer {
     pub fn empty() -> Self
         ensures { result ≡ fresh.empty_aquifer }
     {
-        Aquifer {
-            storage: 0,
-            natural: 0,
-            pumped: 0,
-            committed: 0,
-            extraction: 0,
+        Aquifer::default()
+    }
+}
+
+impl Default for Place {
+    ghost is_default = { λ place. place ≡ fresh.empty_place };
+
+    fn default() -> Self {
+        Place {
+            title: Title::UnitWithdrawal {
+                unit: 0,
+                usage: 0,
+                volume: 0,
+            },
+            in_force: false,
         }
     }
 }
@@ -198,14 +202,7 @@ impl Place {
     pub fn empty() -> Self
         ensures { result ≡ fresh.empty_place }
     {
-        Place {
-            title: Title::UnitWithdrawal {
-                unit: 0,
-                usage: 0,
-                volume: 0,
-            },
-            in_force: false,
-        }
+        Place::default()
     }
 }
 

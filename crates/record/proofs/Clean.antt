@@ -3,12 +3,12 @@ use Rattle.std.specs.Prelude.{Ok}
 use Prim.Native.Nat.{ℕ, suc, ◌+◌, ◌*◌, ◌≤◌, ◌<◌}
 use mathlib.Core.Path.{◌≡◌, sym}
 use mathlib.Core.Logic.{◌⊎◌, inl, inr}
-use mathlib.Core.Bool.{Bool, true, false, ◌&&◌, ◌||◌, true≢false}
+use mathlib.Core.Bool.{Bool, true, false, not, ◌&&◌, ◌||◌, true≢false}
 use lib.Dec.{eqb, ltb, leb}
 use lib.IntN.{ℤ, pos, ◌+ℤ◌}
 use lib.Signed.{lt_z}
 use native.Mathlib.Omega.{arith}
-use borrow.Author.Tests.{ltb-false, leb-false, lt-ltb, eq-eqb, ne_eqb}
+use borrow.Author.Tests.{ltb-false, leb-false, leb-true, ltb-true, eqb-true, eq-eqb, ne_eqb}
 use Rattle.laws.specs.Signed.{above, below}
 use Rattle.laws.proofs.Cases.{by_lt, by_eq}
 use Rattle.laws.proofs.Parts.{plus_parts, by_sign, lt_z_false}
@@ -16,7 +16,6 @@ use Rattle.laws.proofs.Signs.{below_pos}
 use Rattle.model.specs.declared.Refusal.TheVariants.{FewYears, BadGauge}
 use Rattle.model.specs.declared.Aquifer.{Aquifer}
 use Rattle.model.specs.Answers.{refuse}
-use Rattle.river.specs.Wells.{recharge}
 use Rattle.runoff.specs.Soil.{Known}
 use Rattle.runoff.specs.Mean.{divisor}
 use Rattle.runoff.proofs.Record.{weighted_within}
@@ -24,7 +23,10 @@ use Rattle.record.specs.declared.UnitRecord.{UnitRecord}
 use Rattle.record.specs.Record.{with_soil, with_year, is_gauged}
 use Rattle.record.specs.Fault.{Sane, Closed, YearRange, closing_fault, bad_gauge, not_term, terms_outside, stray_commitment, unit_outside, not_onward, unit_fault, aquifer_outside, aquifer_fault}
 use Rattle.model.proofs.Answers.{pass}
-use Rattle.record.proofs.Faults.{or_left, or_right, StorageWithin, storage_within, terms_within, AquiferWithin, aquifer_within}
+use Rattle.record.proofs.Faults.{or_left, or_right, outside_storage, terms_within, AquiferWithin, outside_aquifer}
+use Rattle.model.specs.Ranges.{is_term, is_committed, is_onward}
+use Rattle.model.proofs.Within.{holds, StorageWithin}
+use Rattle.figures.specs.Recharge.{is_recharged}
 
 -- The fields of the unit at index k are inside their values, and it drains onward.
 pub record Fine (k : ℕ) (u : UnitRecord) : Type 0 where
@@ -40,23 +42,27 @@ pub record Fine (k : ℕ) (u : UnitRecord) : Type 0 where
 
 pub record WellFine (a : Aquifer) : Type 0 where
   pub within : AquiferWithin a
-  pub recharged : lt_z (recharge a) (pos 0) ≡ false
+  pub recharged : is_recharged a ≡ true
 
 and_right : (t u : Bool) → t && u ≡ false → t ≡ true → u ≡ false
 and_right true u e q = e
 and_right false u e q = absurd (true≢false (sym q))
 
+or_else : (t u : Bool) → t || u ≡ true → t ≡ false → u ≡ true
+or_else true u e q = absurd (true≢false q)
+or_else false u e q = e
+
 unstray : (d c : ℕ) → stray_commitment d c ≡ false → (d ≡ 0) ⊎ (c ≡ 0)
 unstray d c e =
-    by_lt 0 d
-    (λ h. inr (omega (arith, ltb-false 0 c (and_right (ltb 0 d) (ltb 0 c) e (lt-ltb 0 d h)))))
-    (λ h. inl (omega arith))
+    by_eq d 0
+    inl
+    (λ n. inr (eqb-true c 0 (or_else (eqb d 0) (eqb c 0) (holds (is_committed d c) e) (ne_eqb d 0 n))))
 
 goes_on : (d k : ℕ) → not_onward d (k + 1) ≡ false → (d ≡ 0) ⊎ (suc k < d)
 goes_on d k e =
-    by_lt 0 d
-    (λ h. inr (omega (arith, leb-false d (k + 1) (and_right (ltb 0 d) (leb d (k + 1)) e (lt-ltb 0 d h)))))
-    (λ h. inl (omega arith))
+    by_eq d 0
+    inl
+    (λ n. inr (omega (arith, ltb-true (k + 1) d (or_else (eqb d 0) (ltb (k + 1) d) (holds (is_onward (k + 1) d) e) (ne_eqb d 0 n)))))
 
 -- What a UN without a fault satisfies.
 pub record UnitClean (units aquifers : ℕ) (u : UnitRecord) : Type 0 where
@@ -84,8 +90,8 @@ unit_clean units aquifers u e =
             imports = t.third;
             returns = t.fourth;
             evaporation = t.fifth;
-            commitment = ltb-false _ _ (or_left (not_term u.commitment) _ o₁);
-            storage = storage_within u.storage (or_right (stray_commitment u.downstream u.commitment) _ o₂);
+            commitment = leb-true u.commitment 10000000 (holds (is_term u.commitment) (or_left (not_term u.commitment) _ o₁));
+            storage = outside_storage u.storage (or_right (stray_commitment u.downstream u.commitment) _ o₂);
             inner = unstray u.downstream u.commitment (or_left (stray_commitment u.downstream u.commitment) _ o₂);
             onward = goes_on u.downstream units p₄.not;
           };
@@ -100,8 +106,8 @@ pub aquifer_clean : (aquifers : ℕ) (a : Aquifer) → aquifer_fault aquifers a 
 aquifer_clean aquifers a e =
     let p₁ = pass (leb 32 aquifers) _ _ e in
     let p₂ = pass (aquifer_outside a) _ _ p₁.on in
-    let p₃ = pass (lt_z (recharge a) (pos 0)) _ _ p₂.on in
-    record { room = leb-false 32 aquifers p₁.not; fine = record { within = aquifer_within a p₂.not; recharged = p₃.not } }
+    let p₃ = pass (not (is_recharged a)) _ _ p₂.on in
+    record { room = leb-false 32 aquifers p₁.not; fine = record { within = outside_aquifer a p₂.not; recharged = holds (is_recharged a) p₃.not } }
 
 -- A unit that closes has enough years, a sum that is not negative and a mean of at most 10,000,000.
 gauged_most : (years : ℕ) (sum : ℤ) → (lt_z sum (pos 0) || lt_z (pos (10000000 * years)) sum) ≡ false → above sum ≤ 10000000 * years

@@ -13,6 +13,10 @@ use Rattle.laws.proofs.Cases.{by_lt}
 use Rattle.laws.proofs.Parts.{Less, less_above, less_below, by_sign}
 use Rattle.model.specs.declared.Aquifer.{Aquifer}
 use Rattle.model.proofs.Answers.{pass}
+use Rattle.model.specs.Ranges.{are_terms, is_storage, aquifer_within}
+use Rattle.model.proofs.Within.{holds, first_within, StorageWithin, storage_within}
+use Rattle.laws.proofs.Every.{both}
+use mathlib.Core.List.{[], ◌∷◌}
 use Rattle.record.specs.declared.UnitRecord.{UnitRecord}
 use Rattle.runoff.specs.Soil.{Known}
 use Rattle.record.specs.Fault.{not_term, not_storage, terms_outside, aquifer_outside, soil_outside, soil_fault, rain_outside, rain_fault, gauge_outside_by, gauge_outside, gauge_fault, YearRange, gauge_outside_at, gauged_outside}
@@ -36,13 +40,8 @@ pub or_right : (t u : Bool) → t || u ≡ false → u ≡ false
 or_right true u e = absurd (true≢false e)
 or_right false u e = e
 
-pub record StorageWithin (z : ℤ) : Type 0 where
-  pub rise : above z ≤ 10000000
-  pub fall : below z ≤ 10000000
-
-pub storage_within : (z : ℤ) → not_storage z ≡ false → StorageWithin z
-storage_within z e =
-    record { rise = ltb-false _ _ (or_left (ltb 10000000 (above z)) _ e); fall = ltb-false _ _ (or_right (ltb 10000000 (above z)) _ e) }
+pub outside_storage : (z : ℤ) → not_storage z ≡ false → StorageWithin z
+outside_storage z e = storage_within z (holds (is_storage z) e)
 
 pub record AquiferWithin (a : Aquifer) : Type 0 where
   pub natural : a.natural ≤ 10000000
@@ -51,17 +50,18 @@ pub record AquiferWithin (a : Aquifer) : Type 0 where
   pub extraction : a.extraction ≤ 10000000
   pub storage : StorageWithin a.storage
 
-pub aquifer_within : (a : Aquifer) → aquifer_outside a ≡ false → AquiferWithin a
-aquifer_within a e =
-    let e₁ = or_right (not_term a.natural) _ e in
-    let e₂ = or_right (not_term a.pumped) _ e₁ in
-    let e₃ = or_right (not_term a.committed) _ e₂ in
+pub outside_aquifer : (a : Aquifer) → aquifer_outside a ≡ false → AquiferWithin a
+outside_aquifer a e =
+    let p = both (are_terms (a.natural ∷ a.pumped ∷ a.committed ∷ a.extraction ∷ [])) (is_storage a.storage) (holds (aquifer_within a) e) in
+    let n = first_within a.natural _ p.0 in
+    let m = first_within a.pumped _ n.rest in
+    let c = first_within a.committed _ m.rest in
     record {
-      natural = ltb-false _ _ (or_left (not_term a.natural) _ e);
-      pumped = ltb-false _ _ (or_left (not_term a.pumped) _ e₁);
-      committed = ltb-false _ _ (or_left (not_term a.committed) _ e₂);
-      extraction = ltb-false _ _ (or_left (not_term a.extraction) _ e₃);
-      storage = storage_within a.storage (or_right (not_term a.extraction) _ e₃);
+      natural = n.first;
+      pumped = m.first;
+      committed = c.first;
+      extraction = (first_within a.extraction _ c.rest).first;
+      storage = storage_within a.storage p.1;
     }
 
 -- Negative by its part below 0.
@@ -188,11 +188,6 @@ gauge_clean units aquifers u outside e =
       inside = p₅.not;
     }
 
--- What the parts of an AF's storage satisfy, if no field is outside.
-pub gauge_storage : (outflow inflow : ℕ) (terms : Bool) (storage : ℤ) → gauge_outside_by outflow inflow terms storage ≡ false → StorageWithin storage
-gauge_storage outflow inflow terms storage e =
-    storage_within storage (or_right terms _ (or_right (ltb 2000000000 inflow) _ (or_right (ltb 2000000000 outflow) _ e)))
-
 -- A gauged year whose fields are inside is small enough to be added up.
 pub record TermsWithin (a b c d e : ℕ) : Type 0 where
   pub first : a ≤ 10000000
@@ -203,44 +198,32 @@ pub record TermsWithin (a b c d e : ℕ) : Type 0 where
 
 pub terms_within : (a b c d e : ℕ) → terms_outside a b c d e ≡ false → TermsWithin a b c d e
 terms_within a b c d e q =
-    let q₂ = or_right (not_term a) _ q in
-    let q₃ = or_right (not_term b) _ q₂ in
-    let q₄ = or_right (not_term c) _ q₃ in
+    let p₁ = first_within a _ (holds (are_terms (a ∷ b ∷ c ∷ d ∷ e ∷ [])) q) in
+    let p₂ = first_within b _ p₁.rest in
+    let p₃ = first_within c _ p₂.rest in
+    let p₄ = first_within d _ p₃.rest in
     record {
-      first = ltb-false _ _ (or_left (not_term a) _ q);
-      second = ltb-false _ _ (or_left (not_term b) _ q₂);
-      third = ltb-false _ _ (or_left (not_term c) _ q₃);
-      fourth = ltb-false _ _ (or_left (not_term d) _ q₄);
-      fifth = ltb-false _ _ (or_right (not_term d) _ q₄);
+      first = p₁.first;
+      second = p₂.first;
+      third = p₃.first;
+      fourth = p₄.first;
+      fifth = (first_within e _ p₄.rest).first;
     }
 
-gauge_range : (outflow inflow extraction exports imports returns evaporation : ℕ) (storage : ℤ)
-    → gauge_outside outflow inflow extraction exports imports returns evaporation storage ≡ false
-    → YearRange (gauged_year outflow inflow extraction exports imports returns evaporation storage)
-gauge_range outflow inflow extraction exports imports returns evaporation storage q =
-    let q₂ = or_right (ltb 2000000000 outflow) _ q in
-    let q₃ = or_right (ltb 2000000000 inflow) _ q₂ in
-    let t = terms_within extraction exports imports returns evaporation (or_left (terms_outside extraction exports imports returns evaporation) _ q₃) in
-    let z = storage_within storage (or_right (terms_outside extraction exports imports returns evaporation) _ q₃) in
-    let o = ltb-false 2000000000 outflow (or_left (ltb 2000000000 outflow) _ q) in
-    let n = ltb-false 2000000000 inflow (or_left (ltb 2000000000 inflow) _ q₂) in
-    let p = gauged_parts outflow inflow extraction exports imports returns evaporation storage in
-    record { gain = omega (arith, less_above p); loss = omega (arith, less_below p) }
+-- A gauged year that is not outside its values: its storage change is in its range, and it is small enough to be added up.
+pub gauged_storage : (y : Gauged) → gauged_outside y ≡ false → StorageWithin y.storage
+gauged_storage y q =
+    outside_storage y.storage
+    (or_right (terms_outside y.extraction y.exports y.imports y.returns y.evaporation) _
+    (or_right (ltb 2000000000 y.inflow) _ (or_right (ltb 2000000000 y.outflow) _ q)))
 
 pub gauged_range : (y : Gauged) → gauged_outside y ≡ false → YearRange (gauged_of y)
 gauged_range y q =
-    gauge_range y.outflow y.inflow y.extraction y.exports y.imports y.returns y.evaporation y.storage q
-
-pub gauge_inside : (outflow inflow extraction exports imports returns evaporation : ℕ) (storage : ℤ)
-    → gauge_outside outflow inflow extraction exports imports returns evaporation storage ≡ false → StorageWithin storage
-gauge_inside outflow inflow extraction exports imports returns evaporation storage q =
-    gauge_storage outflow inflow (terms_outside extraction exports imports returns evaporation) storage q
-
--- The same of the AF at an offset.
-pub inside_at : (s : List ℕ) (at : ℕ) → gauge_outside_at s at ≡ false → StorageWithin (signed_bits32 s (at + 30))
-inside_at s at q =
-    gauge_inside (bits32 s (at + 2)) (bits32 s (at + 6)) (bits32 s (at + 10)) (bits32 s (at + 14)) (bits32 s (at + 18)) (bits32 s (at + 22))
-    (bits32 s (at + 26)) (signed_bits32 s (at + 30)) q
-
-pub range_at : (s : List ℕ) (at : ℕ) → gauge_outside_at s at ≡ false → YearRange (gauge_of s at)
-range_at s at q = gauged_range (gauged_at s at) q
+    let q₂ = or_right (ltb 2000000000 y.outflow) _ q in
+    let q₃ = or_right (ltb 2000000000 y.inflow) _ q₂ in
+    let t = terms_within y.extraction y.exports y.imports y.returns y.evaporation (or_left (terms_outside y.extraction y.exports y.imports y.returns y.evaporation) _ q₃) in
+    let z = gauged_storage y q in
+    let o = ltb-false 2000000000 y.outflow (or_left (ltb 2000000000 y.outflow) _ q) in
+    let n = ltb-false 2000000000 y.inflow (or_left (ltb 2000000000 y.inflow) _ q₂) in
+    let p = gauged_parts y.outflow y.inflow y.extraction y.exports y.imports y.returns y.evaporation y.storage in
+    record { gain = omega (arith, less_above p); loss = omega (arith, less_below p) }

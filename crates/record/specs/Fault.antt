@@ -1,13 +1,14 @@
 -- The refusals of reading (document 01, "What each operation refuses"; document 02 [1]), first match wins.
 -- They work on the number of units and aquifers read so far and on the open unit. Assumes nothing.
-use Rattle.std.specs.Prelude.{ℕ, ◌+◌, ◌*◌, ◌≤◌, ◌≡◌, Bool, cond, ◌&&◌, ◌||◌, List, eqb, leb, ltb, ℤ, pos}
+use Rattle.std.specs.Prelude.{ℕ, ◌+◌, ◌*◌, ◌≤◌, ◌≡◌, Bool, cond, not, ◌&&◌, ◌||◌, List, [], ◌∷◌, eqb, leb, ltb, ℤ, pos}
 use Rattle.std.specs.Int.Signed.{lt_z}
 use Rattle.laws.specs.Signed.{above, below}
 use Rattle.model.specs.declared.Refusal.TheVariants.{OutOfSequence, TooMany, OutsideValues, FewYears, LargeUnit, BadDownstream, BadGauge, NegativeRecharge}
 use Rattle.model.specs.declared.Aquifer.{Aquifer}
 use Rattle.model.specs.Answers.{Answer, accepted, refuse}
 use Rattle.model.specs.Limits.{unit_limit, aquifer_limit, term_limit}
-use Rattle.river.specs.Wells.{recharge}
+use Rattle.model.specs.Ranges.{is_term, are_terms, is_storage, is_committed, is_onward, aquifer_within}
+use Rattle.figures.specs.Recharge.{is_recharged}
 use Rattle.runoff.specs.Mean.{divisor}
 use Rattle.runoff.specs.declared.Measure.{Measure}
 use Rattle.runoff.specs.declared.Measure.TheVariants.{Millimetres, Tenths}
@@ -19,15 +20,15 @@ use Rattle.record.specs.declared.UnitRecord.{UnitRecord}
 
 -- A field outside its values: a term is at most 10,000,000, a storage change lies from −10,000,000 to 10,000,000.
 abbrev pub not_term : ℕ → Bool
-not_term x = ltb term_limit x
+not_term x = not (is_term x)
 
 abbrev pub not_storage : ℤ → Bool
-not_storage z = ltb term_limit (above z) || ltb term_limit (below z)
+not_storage z = not (is_storage z)
 
 -- The five terms that UN and AF share.
 abbrev pub terms_outside : ℕ → ℕ → ℕ → ℕ → ℕ → Bool
 terms_outside extraction exports imports returns evaporation =
-    not_term extraction || (not_term exports || (not_term imports || (not_term returns || not_term evaporation)))
+    not (are_terms (extraction ∷ exports ∷ imports ∷ returns ∷ evaporation ∷ []))
 
 -- UN, AC or the description's end closes the open unit: 6 under 20 years, 9 gauged sum negative or above 10,000,000 times the years.
 abbrev pub bad_gauge : ℕ → ℕ → ℤ → Bool
@@ -42,7 +43,7 @@ closing_fault units u = closing_by units u.soils u.years u.sum
 
 -- UN: all but storage are terms, and the commitment of a unit that is not an outlet is 0.
 abbrev pub stray_commitment : ℕ → ℕ → Bool
-stray_commitment downstream commitment = ltb 0 downstream && ltb 0 commitment
+stray_commitment downstream commitment = not (is_committed downstream commitment)
 
 abbrev pub unit_outside : UnitRecord → Bool
 unit_outside u =
@@ -51,7 +52,7 @@ unit_outside u =
 
 -- A downstream number that is not 0 and not above the unit's own number.
 abbrev pub not_onward : ℕ → ℕ → Bool
-not_onward downstream own = ltb 0 downstream && leb downstream own
+not_onward downstream own = not (is_onward own downstream)
 
 -- UN: 3 after AC; 4 a 65th unit; 5 a field outside its values; 8 downstream not 0 and not above its own number.
 abbrev pub unit_fault : ℕ → ℕ → UnitRecord → Answer
@@ -125,13 +126,12 @@ year_fault units aquifers u (of_gauge y) = gauge_fault units aquifers u (gauged_
 
 -- AC: four terms and a storage change.
 abbrev pub aquifer_outside : Aquifer → Bool
-aquifer_outside a =
-    not_term a.natural || (not_term a.pumped || (not_term a.committed || (not_term a.extraction || not_storage a.storage)))
+aquifer_outside a = not (aquifer_within a)
 
 -- AC: 4 a 33rd aquifer; 5 a field outside its values; 11 recharge negative.
 abbrev pub aquifer_fault : ℕ → Aquifer → Answer
 aquifer_fault aquifers a =
-    refuse TooMany (leb aquifer_limit aquifers) (refuse OutsideValues (aquifer_outside a) (refuse NegativeRecharge (lt_z (recharge a) (pos 0)) accepted))
+    refuse TooMany (leb aquifer_limit aquifers) (refuse OutsideValues (aquifer_outside a) (refuse NegativeRecharge (not (is_recharged a)) accepted))
 
 -- What holds of the open unit at every record, since each record that grew it was tested: its numbers are small enough to be added up,
 -- and rain years do not sum below 0.

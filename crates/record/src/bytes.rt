@@ -12,11 +12,11 @@ pub fn bits8(s: &[u8], i: usize) -> u8
 }
 
 // 16 bits.
-pub fn bits16(s: &[u8], i: usize) -> u32
+pub fn bits16(s: &[u8], i: usize) -> u16
     requires { i + 2 ≤ length s.now }
     ensures { Half s.now i result }
 {
-    u32::from(s[i]) + 256 * u32::from(s[i + 1])
+    u16::from_le_bytes([s[i], s[i + 1]])
 }
 
 // 32 bits.
@@ -24,7 +24,7 @@ pub fn bits32(s: &[u8], i: usize) -> u32
     requires { i + 4 ≤ length s.now }
     ensures { result ≡ bytes.bits32 s.now i }
 {
-    bits16(s, i) + 65536 * bits16(s, i + 2)
+    u32::from_le_bytes([s[i], s[i + 1], s[i + 2], s[i + 3]])
 }
 
 // 32 bits, signed.

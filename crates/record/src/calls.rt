@@ -52,7 +52,7 @@ fn call_of(mark: CallMark, s: &[u8], at: usize) -> Call
         },
         CallMark::Ca => {
             return Call::Cancel {
-                number: bits16(s, at + 2) as u16,
+                number: bits16(s, at + 2),
             };
         }
     };

@@ -1,42 +1,15 @@
 // The refusals of reading.
-ghost use Rattle.std.specs.Prelude.{◌≡◌, ◌+◌, ◌≤◌, pos, length};
-ghost use Rattle.std.specs.Int.Signed.{lt_z};
-ghost use Rattle.laws.specs.Signed.{above};
-ghost use Rattle.model.specs.Limits.{term_limit};
-ghost use Rattle.river.specs.Wells.{recharge};
+ghost use Rattle.std.specs.Prelude.{◌≡◌, ◌≤◌};
 ghost use Rattle.runoff.specs.declared.Measure.TheVariants.{Tenths};
-ghost use Rattle.record.specs.Bytes.{signed_bits32};
 ghost use Rattle.record.specs.Fault as faults;
 ghost use Rattle.record.specs.Fault.{Sane};
 
-use crate::bytes::bits32;
 use crate::{Progress, UnitRecord};
-use model::{Answer, Aquifer, Balance, Refusal};
-
-// A storage change outside -10,000,000 to 10,000,000.
-fn storage_outside(z: i64) -> bool
-    ensures { result ≡ faults.not_storage z }
-{
-    let term = u64::from(Balance::TERM);
-    laws::above(z) > term || laws::below(z) > term
-}
-
-// One of the five terms that UN and AF share is above 10,000,000.
-fn terms_outside(
-    extraction: u32,
-    exports: u32,
-    imports: u32,
-    returns: u32,
-    evaporation: u32,
-) -> bool
-    ensures { result ≡ faults.terms_outside extraction exports imports returns evaporation }
-{
-    extraction > Balance::TERM
-        || exports > Balance::TERM
-        || imports > Balance::TERM
-        || returns > Balance::TERM
-        || evaporation > Balance::TERM
-}
+use figures::is_recharged;
+use model::{
+    Answer, Aquifer, Balance, Refusal, are_terms, is_committed, is_onward, is_storage, is_term,
+};
+use runoff::{Gauged, Plot};
 
 // A gauged sum that is negative or above 10,000,000 times the years.
 fn bad_sum(soils: u64, years: u64, sum: i64) -> bool
@@ -64,28 +37,14 @@ pub fn closing_fault(p: &Progress) -> Answer
     Ok(())
 }
 
-// The commitment of a unit that is not an outlet.
-fn stray_commitment(downstream: u8, commitment: u32) -> bool
-    ensures { result ≡ faults.stray_commitment downstream commitment }
-{
-    0 < downstream && 0 < commitment
-}
-
 // A field of a UN outside its values.
 fn unit_outside(u: UnitRecord) -> bool
     ensures { result ≡ faults.unit_outside u }
 {
-    terms_outside(u.extraction, u.exports, u.imports, u.returns, u.evaporation)
-        || u.commitment > Balance::TERM
-        || stray_commitment(u.downstream, u.commitment)
-        || storage_outside(u.storage)
-}
-
-// A downstream number that is not 0 and not above the unit's own.
-fn not_onward(downstream: u8, own: usize) -> bool
-    ensures { result ≡ faults.not_onward downstream own }
-{
-    0 < downstream && usize::from(downstream) <= own
+    !are_terms(&[u.extraction, u.exports, u.imports, u.returns, u.evaporation])
+        || !is_term(u.commitment)
+        || !is_committed(u.downstream, u.commitment)
+        || !is_storage(u.storage)
 }
 
 // The fault of a UN.
@@ -101,23 +60,25 @@ pub fn unit_fault(p: &Progress, u: UnitRecord) -> Answer
     if unit_outside(u) {
         return Err(Refusal::OutsideValues);
     }
-    if not_onward(u.downstream, p.units + 1) {
+    if !is_onward(p.units, u.downstream) {
         return Err(Refusal::BadDownstream);
     }
     Ok(())
 }
 
 // A field of an SU outside its values.
-fn soil_outside(cover: u8, soil: u8, hectares: u32) -> bool
-    ensures { result ≡ faults.soil_outside cover soil hectares }
+fn soil_outside(plot: Plot) -> bool
+    ensures { result ≡ faults.soil_outside plot.cover plot.soil plot.hectares }
 {
-    !(1..=14).contains(&cover) || !(1..=3).contains(&soil) || !(1..=300000).contains(&hectares)
+    !(1..=14).contains(&plot.cover)
+        || !(1..=3).contains(&plot.soil)
+        || !(1..=300000).contains(&plot.hectares)
 }
 
-// The fault of an SU.
-pub fn soil_fault(p: &Progress, cover: u8, soil: u8, hectares: u32) -> Answer
+// The fault of an SU. `Sane` stays a clause: as an invariant of `Progress` or of its open unit it would ask more of callers of the other faults.
+pub fn soil_fault(p: &Progress, plot: Plot) -> Answer
     requires { Sane p.now.open }
-    ensures { result ≡ faults.soil_fault p.now.units p.now.aquifers p.now.open cover soil hectares }
+    ensures { result ≡ faults.soil_fault p.now.units p.now.aquifers p.now.open plot.cover plot.soil plot.hectares }
 {
     let u = p.open;
     if 0 < p.aquifers || p.units == 0 || 0 < u.years {
@@ -126,10 +87,10 @@ pub fn soil_fault(p: &Progress, cover: u8, soil: u8, hectares: u32) -> Answer
     if 16 <= u.soils {
         return Err(Refusal::TooMany);
     }
-    if soil_outside(cover, soil, hectares) {
+    if soil_outside(plot) {
         return Err(Refusal::OutsideValues);
     }
-    if 300000 < u.hectares + u64::from(hectares) {
+    if 300000 < u.hectares + u64::from(plot.hectares) {
         return Err(Refusal::LargeUnit);
     }
     Ok(())
@@ -159,32 +120,18 @@ pub fn rain_fault(p: &Progress, tenths: u64) -> Answer
 }
 
 // A field of an AF outside its values.
-fn gauge_outside(outflow: u32, inflow: u32, terms: bool, storage: i64) -> bool
-    ensures { result ≡ faults.gauge_outside_by outflow inflow terms storage }
+fn gauge_outside(y: &Gauged) -> bool
+    ensures { result ≡ faults.gauged_outside y.now }
 {
-    outflow > 2000000000 || inflow > 2000000000 || terms || storage_outside(storage)
+    y.outflow > 2000000000
+        || y.inflow > 2000000000
+        || !are_terms(&[y.extraction, y.exports, y.imports, y.returns, y.evaporation])
+        || !is_storage(y.storage)
 }
 
-// A field of the AF at an offset, whose storage change was read, is outside its values.
-fn outside_at(s: &[u8], at: usize, storage: i64) -> bool
-    requires at_in_bounds { at + 34 ≤ length s.now }
-    requires storage_value { storage ≡ signed_bits32 s.now (at + 30) }
-    ensures { result ≡ faults.gauge_outside_at s.now at }
-{
-    let extraction = bits32(s, at + 10);
-    let exports = bits32(s, at + 14);
-    let imports = bits32(s, at + 18);
-    let returns = bits32(s, at + 22);
-    let evaporation = bits32(s, at + 26);
-    let terms = terms_outside(extraction, exports, imports, returns, evaporation);
-    gauge_outside(bits32(s, at + 2), bits32(s, at + 6), terms, storage)
-}
-
-// The fault of the AF at an offset, whose storage change was read.
-pub fn gauge_fault(p: &Progress, s: &[u8], at: usize, storage: i64) -> Answer
-    requires at_in_bounds { at + 34 ≤ length s.now }
-    requires storage_value { storage ≡ signed_bits32 s.now (at + 30) }
-    ensures { result ≡ faults.gauge_fault p.now.units p.now.aquifers p.now.open (faults.gauge_outside_at s.now at) }
+// The fault of an AF.
+pub fn gauge_fault(p: &Progress, y: &Gauged) -> Answer
+    ensures { result ≡ faults.gauge_fault p.now.units p.now.aquifers p.now.open (faults.gauged_outside y.now) }
 {
     if 0 < p.aquifers || p.units == 0 || 0 < p.open.soils {
         return Err(Refusal::OutOfSequence);
@@ -192,29 +139,10 @@ pub fn gauge_fault(p: &Progress, s: &[u8], at: usize, storage: i64) -> Answer
     if 50 <= p.open.years {
         return Err(Refusal::TooMany);
     }
-    if outside_at(s, at, storage) {
+    if gauge_outside(y) {
         return Err(Refusal::OutsideValues);
     }
     Ok(())
-}
-
-// A field of an AC outside its values.
-fn aquifer_outside(a: Aquifer) -> bool
-    ensures { result ≡ faults.aquifer_outside a }
-{
-    a.natural > Balance::TERM
-        || a.pumped > Balance::TERM
-        || a.committed > Balance::TERM
-        || a.extraction > Balance::TERM
-        || storage_outside(a.storage)
-}
-
-// The recharge is negative: storage falls by more than the discharges.
-fn negative_recharge(a: Aquifer) -> bool
-    requires { above a.storage ≤ term_limit }
-    ensures { result ≡ lt_z (recharge a) (pos 0) }
-{
-    laws::above(a.storage) + u64::from(a.natural) + u64::from(a.pumped) < laws::below(a.storage)
 }
 
 // The fault of an AC.
@@ -224,10 +152,10 @@ pub fn aquifer_fault(p: &Progress, a: Aquifer) -> Answer
     if Balance::AQUIFERS <= p.aquifers {
         return Err(Refusal::TooMany);
     }
-    if aquifer_outside(a) {
+    if !a.is_within() {
         return Err(Refusal::OutsideValues);
     }
-    if negative_recharge(a) {
+    if !is_recharged(&a) {
         return Err(Refusal::NegativeRecharge);
     }
     Ok(())

@@ -1,9 +1,9 @@
 // The marks of a book and the records of a description.
-ghost use Rattle.std.specs.Prelude.{◌≡◌, true, false, ◌+◌, ◌≤◌, length};
+ghost use Rattle.std.specs.Prelude.{◌≡◌, ◌+◌, ◌≤◌, length};
 ghost use Rattle.runoff.specs.Soil.{Known};
-ghost use Rattle.record.specs.Bytes.{signed_bits32};
 ghost use Rattle.record.specs.Record as records;
-ghost use Rattle.record.specs.Fault.{Sane, Closed, YearRange, gauge_outside_at};
+ghost use Rattle.record.specs.Described as described;
+ghost use Rattle.record.specs.Fault.{Sane, Closed, YearRange};
 
 use crate::bytes::{bits8, bits32, signed_bits32};
 use crate::{CallMark, Mark, UnitRecord};
@@ -97,18 +97,43 @@ pub fn aquifer_record(s: &[u8], i: usize) -> Aquifer
     }
 }
 
-// The unit with a soil record in.
-pub fn with_soil(u: UnitRecord, cover: u8, soil: u8, hectares: u32) -> UnitRecord
-    requires sane { Sane u }
-    requires known { Known cover soil }
-    ensures { result ≡ records.with_soil u cover soil hectares }
+// An SU record.
+pub fn soil_record(s: &[u8], i: usize) -> Plot
+    requires { i + 8 ≤ length s.now }
+    ensures { result ≡ described.plot_at s.now i }
 {
-    let area = hectares as u64;
-    let plot = Plot {
-        cover,
-        soil,
-        hectares,
-    };
+    Plot {
+        cover: bits8(s, i + 2),
+        soil: bits8(s, i + 3),
+        hectares: bits32(s, i + 4),
+    }
+}
+
+// An AF record.
+pub fn gauged_record(s: &[u8], i: usize) -> Gauged
+    requires { i + 34 ≤ length s.now }
+    ensures { result ≡ described.gauged_at s.now i }
+{
+    Gauged {
+        outflow: bits32(s, i + 2),
+        inflow: bits32(s, i + 6),
+        extraction: bits32(s, i + 10),
+        exports: bits32(s, i + 14),
+        imports: bits32(s, i + 18),
+        returns: bits32(s, i + 22),
+        evaporation: bits32(s, i + 26),
+        storage: signed_bits32(s, i + 30),
+    }
+}
+
+// The unit with a soil record in. Here and of a year more, `Sane` stays a clause: as an invariant of `UnitRecord` it would ask more of callers
+// of the faults, which take any unit.
+pub fn with_soil(u: UnitRecord, plot: Plot) -> UnitRecord
+    requires sane { Sane u }
+    requires known { Known plot.cover plot.soil }
+    ensures { result ≡ records.with_soil u plot.cover plot.soil plot.hectares }
+{
+    let area = u64::from(plot.hectares);
     let weighted = area * plot.coefficient();
     let mut next = u;
     next.soils = u.soils + 1;
@@ -129,27 +154,7 @@ pub fn with_year(u: UnitRecord, year: i64) -> UnitRecord
     next
 }
 
-// The year of the AF at an offset, whose storage change was read.
-pub fn year_at(s: &[u8], at: usize, storage: i64) -> i64
-    requires at_in_bounds { at + 34 ≤ length s.now }
-    requires storage_value { storage ≡ signed_bits32 s.now (at + 30) }
-    requires at_value { gauge_outside_at s.now at ≡ false }
-    ensures { result ≡ records.gauge_of s.now at }
-{
-    let gauged = Gauged {
-        outflow: bits32(s, at + 2),
-        inflow: bits32(s, at + 6),
-        extraction: bits32(s, at + 10),
-        exports: bits32(s, at + 14),
-        imports: bits32(s, at + 18),
-        returns: bits32(s, at + 22),
-        evaporation: bits32(s, at + 26),
-        storage,
-    };
-    gauged.year()
-}
-
-// The unit of the balance that a closed unit gives.
+// The unit of the balance that a closed unit gives. Its runoff is proved to fit the cast: `try_from` would add a branch that never runs.
 pub fn unit_of(u: UnitRecord) -> Unit
     requires { Closed u }
     ensures { result ≡ records.closed_unit u }

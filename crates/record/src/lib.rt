@@ -13,13 +13,14 @@ pub use bytes::{bits8, bits16, bits32, signed_bits32};
 pub use calls::call_at;
 pub use fault::{aquifer_fault, closing_fault, gauge_fault, rain_fault, soil_fault, unit_fault};
 pub use fields::{
-    aquifer_record, mark_of, spells, unit_of, unit_record, with_soil, with_year, year_at,
+    aquifer_record, gauged_record, mark_of, soil_record, spells, unit_of, unit_record, with_soil,
+    with_year,
 };
 use model::{Answer, Call, Refusal};
 
 // A unit as its book describes it: the offset of its UN mark, the fields of its UN, and of the records after it how many soil records
 // there are, their hectares and weighted hectares, how many years there are and their sum (rain years in 6,000,000,000ths).
-#[derive(Clone, Copy)]
+#[derive(Clone, Copy, Default)]
 pub struct UnitRecord {
     pub at: usize,
     pub downstream: u8,
@@ -38,7 +39,7 @@ pub struct UnitRecord {
 }
 
 // How far a description is read: how many units and aquifers there are, and the open unit, which is the last.
-#[derive(Clone, Copy)]
+#[derive(Clone, Copy, Default)]
 pub struct Progress {
     pub units: usize,
     pub aquifers: usize,

@@ -46,6 +46,7 @@ pub fn return_percent(usage: u8) -> u64
 }
 
 // floor(volume × r / 100), r being the percentage of the use.
+// The cast fits, since no percentage is above 100: `try_from` would add a branch that never runs.
 pub fn returned(usage: u8, volume: u32) -> u32
     ensures { result ≡ adds.returned usage volume }
 {

@@ -1,5 +1,6 @@
 -- `book::read` meets its contract. Assumes nothing.
 use Rattle.std.proofs.Common.{◌≡◌, ap, ◌∙◌, subst, ◌-◌, ◌+◌, length, Ok, Err, arith, rules}
+use Rattle.record.specs.Record.{no_sums}
 use Rattle.record.proofs.Clean.{closing_clean}
 use Rattle.book.specs.declared.Next.TheVariants.{Ends, Opens, Adds}
 use Rattle.book.specs.Reading.{last_sums}
@@ -11,7 +12,8 @@ use Rattle.book.proofs.opening.read.Goals.{in-Opens, in-Grows, in-Adds}
 pub loop-init : goal.loop-init
 loop-init c =
     let e : length c.args.s.now + 1 ≡ length c.args.s.now + 1 - 0 = omega arith in
-    rw (c.fresh-b.ensures, c.no_sums.ensures) (subst (Reached c.args.s.now _ _ _ _ _) e (reached_start c.args.s.now))
+    let z : c.default-p.result ≡ record { units = 0; aquifers = 0; «open» = no_sums } = search rules in
+    rw (c.fresh-b.ensures, z) (subst (Reached c.args.s.now _ _ _ _ _) e (reached_start c.args.s.now))
 
 pub returns-in_err-next : goal.returns-in_err-next
 returns-in_err-next c =

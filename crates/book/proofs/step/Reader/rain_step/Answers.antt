@@ -6,17 +6,17 @@ use Rattle.runoff.specs.Year.{RainRange}
 use Rattle.runoff.proofs.RainBounds.{rain_within}
 use Rattle.record.specs.Fault.{rain_fault}
 use Rattle.record.proofs.Faults.{rain_clean}
-use Rattle.book.proofs.step.rain_step.Goals as goal
-use Rattle.book.proofs.step.rain_step.Goals.{After-rain_year-year}
+use Rattle.book.proofs.step.Reader.rain_step.Goals as goal
+use Rattle.book.proofs.step.Reader.rain_step.Goals.{After-rain_year-year}
 
 -- A year with no fault is inside its values.
-in-range : (c : After-rain_year-year) → RainRange c.args.p.now.open.hectares c.args.p.now.open.weighted c.in_tenths-tenths.result
+in-range : (c : After-rain_year-year) → RainRange c.args.self.now.progress.open.hectares c.args.self.now.progress.open.weighted c.in_tenths-tenths.result
 in-range c =
-    let p = c.args.p.now in
+    let p = c.args.self.now.progress in
     let clean : rain_fault p.units p.aquifers p.open Tenths c.in_tenths-tenths.result ≡ Ok tt = search rules in
     record {
-      area_to = c.requires.sane.area;
-      weighted_to = c.requires.sane.weight;
+      area_to = c.args.self.now.sane.area;
+      weighted_to = c.args.self.now.sane.weight;
       rain_to = (rain_clean p.units p.aquifers p.open Tenths c.in_tenths-tenths.result clean).most;
     }
 
