@@ -1,6 +1,7 @@
 // Flow: what each unit gains and loses, gathered down the tree.
 ghost use Rattle.std.specs.Prelude.{◌≡◌};
 ghost use Rattle.river.specs.Flow as river;
+ghost use Rattle.river.specs.Flow.{Ready};
 ghost use Rattle.river.specs.Units.{units_of};
 
 use crate::reserve::contribution;
@@ -79,11 +80,12 @@ impl<'a> Model for Routed<'a> {
 impl<'a> Routed<'a> {
     ghost use Rattle.river.specs.Passes.{Flows};
 
-    // The tree.
-    pub fn tree(&self) -> &Tree<'a>
-        ensures { result.now ≡ self.now }
+    // Its units, which make a tree.
+    pub fn units(&self) -> &'a [Unit]
+        ensures units { result.now ≡ self.now }
+        ensures ready { Ready (units_of result.now) }
     {
-        &self.tree
+        self.tree.units()
     }
 
     // What the forward pass over its units works out.

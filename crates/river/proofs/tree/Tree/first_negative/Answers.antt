@@ -8,19 +8,16 @@ use Rattle.laws.proofs.Parts.{Less, less_monus, less_non_neg, less_negative}
 use Rattle.laws.proofs.Arrays.{arrived_start, arrived_out, arrived_on}
 use Rattle.model.specs.declared.Unit.{Unit}
 use Rattle.model.specs.Fresh.{empty_unit}
-use Rattle.river.specs.Flow.{downstream, flow, Ready}
+use Rattle.river.specs.Flow.{downstream, flow}
 use Rattle.river.specs.Reserve.{contribution}
 use Rattle.river.specs.Units.{units_of}
 use Rattle.river.proofs.Reserves.{flow_reached, total_small}
+use Rattle.river.proofs.Units.{ready_at}
 use Rattle.river.proofs.Firsts.{first_at, first_nothing}
 use Rattle.river.proofs.Passing.{Onward, onward_of, arrived_within}
 use Rattle.river.proofs.tree.Tree.first_negative.Invariants.{Flowing}
 use Rattle.river.proofs.tree.Tree.first_negative.Goals as goal
 use Rattle.river.proofs.tree.Tree.first_negative.Goals.{In-Some, After-loss-lost, In-Some-checked_sub, In_default-checked_sub}
-
--- The units of the tree are its value.
-ready : {us ws : List Unit} → us ≡ ws → Ready (units_of us) → Ready (units_of ws)
-ready e r = rw e at r
 
 -- What the iterator gives: the next unit, and leaves: the units after it.
 record Taken (us : List Unit) (i : ℕ) (u : Unit) (left : List Unit) : Type 0 where
@@ -55,7 +52,7 @@ reached : (c : After-loss-lost)
 reached c =
     let t = taken (goal.at.After-loss-lost c).In-Some in
     let f = flowing (goal.at.After-loss-lost c).In-Some in
-    rw (f.arrived.each c.in-Some.i (omega (arith, t.inside, (ready c.units-units.ensures.units c.units-units.ensures.ready).few)), c.gain.ensures, c.loss-lost.ensures, t.unit)
+    rw (f.arrived.each c.in-Some.i (omega (arith, t.inside, (ready_at c.units-units.ensures.units c.units-units.ensures.ready).few)), c.gain.ensures, c.loss-lost.ensures, t.unit)
     (flow_reached (units_of c.args.self.now) c.in-Some.i f.passed)
 
 pub overflow_add-gained : goal.overflow_add-gained
@@ -67,9 +64,9 @@ overflow_add-gained c =
     omega (
       arith,
       own,
-      f.arrived.each c.in-Some.i (omega (arith, t.inside, (ready c.units-units.ensures.units c.units-units.ensures.ready).few)),
-      total_small v (ready c.units-units.ensures.units c.units-units.ensures.ready) c.in-Some.i t.inside,
-      (ready c.units-units.ensures.units c.units-units.ensures.ready).gains c.in-Some.i t.inside,
+      f.arrived.each c.in-Some.i (omega (arith, t.inside, (ready_at c.units-units.ensures.units c.units-units.ensures.ready).few)),
+      total_small v (ready_at c.units-units.ensures.units c.units-units.ensures.ready) c.in-Some.i t.inside,
+      (ready_at c.units-units.ensures.units c.units-units.ensures.ready).gains c.in-Some.i t.inside,
     )
 
 -- The unit's contribution goes on to its downstream unit.
@@ -80,7 +77,7 @@ contributed c = sym (less_monus (reached c))
 onward : (c : In-Some-checked_sub) → Onward (units_of c.args.self.now) c.in-Some.i c.in-Some-checked_sub.k
 onward c =
     let t = taken (goal.at.In-Some-checked_sub c).In-Some in
-    onward_of (units_of c.args.self.now) (ready c.units-units.ensures.units c.units-units.ensures.ready) c.in-Some.i c.in-Some-checked_sub.k t.inside
+    onward_of (units_of c.args.self.now) (ready_at c.units-units.ensures.units c.units-units.ensures.ready) c.in-Some.i c.in-Some-checked_sub.k t.inside
     (ap (λ (u : Unit). u.downstream) (sym t.unit) ∙ omega (arith, c.from.ensures, c.in-Some-checked_sub.ensures))
 
 pub overflow_add-arrived : goal.overflow_add-arrived
@@ -89,7 +86,7 @@ overflow_add-arrived c =
     let f = flowing (goal.at.overflow_add-arrived c).In-Some in
     omega (
       arith,
-      arrived_within (units_of c.args.self.now) (ready c.units-units.ensures.units c.units-units.ensures.ready) c.in-Some.i t.inside c.in-Some-checked_sub.k c.loop-i.arrived _ (onward c)
+      arrived_within (units_of c.args.self.now) (ready_at c.units-units.ensures.units c.units-units.ensures.ready) c.in-Some.i t.inside c.in-Some-checked_sub.k c.loop-i.arrived _ (onward c)
           (contributed (goal.at.overflow_add-arrived c).After-loss-lost) f.arrived,
     )
 
@@ -114,7 +111,7 @@ loop-i-preserved-in-Some-checked_sub c =
             arrived =
                 rw (add-one c.in-Some.i)
                 (arrived_on 64 (downstream v) (contribution v) c.in-Some.i c.in-Some-checked_sub.k c.loop-i.arrived b.next
-                (omega (arith, b.within, (ready c.units-units.ensures.units c.units-units.ensures.ready).few)) f.arrived);
+                (omega (arith, b.within, (ready_at c.units-units.ensures.units c.units-units.ensures.ready).few)) f.arrived);
           };
     })
 
