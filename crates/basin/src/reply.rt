@@ -28,18 +28,17 @@ fn no_aquifers() -> [AquiferFigures; Balance::AQUIFERS]
 pub fn figures(b: Balance) -> Figures
     ensures { result ≡ replies.figures_reply (view_of b) }
 {
-    let Some(amounts) = tested(b) else {
+    let Some(routed) = tested(&b) else {
         return Figures {
             answer: Err(Refusal::Unsound),
             units: no_units(),
             aquifers: no_aquifers(),
         };
     };
-    let units = &b.units[..b.unit_count];
     let aquifers = &b.aquifers[..b.aquifer_count];
     Figures {
         answer: Ok(()),
-        units: figures::unit_figures(units, &amounts),
+        units: figures::unit_figures(&routed),
         aquifers: figures::aquifer_figures(aquifers),
     }
 }

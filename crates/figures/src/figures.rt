@@ -2,73 +2,65 @@
 ghost use Rattle.std.specs.Prelude.{◌≡◌, ◌≤◌};
 ghost use Rattle.laws.specs.Signed.{above, below};
 ghost use Rattle.model.specs.Limits.{term_limit};
-ghost use Rattle.river.specs.Flow.{Ready};
-ghost use Rattle.river.specs.Passes.{Flows, Splits};
 ghost use Rattle.river.specs.Units.{units_of};
 ghost use Rattle.river.specs.Limits.{gathered_limit};
 ghost use Rattle.figures.specs.Figures as figures;
 ghost use Rattle.figures.specs.Figures.{figures_from, aquifers_of};
 
 use crate::{AquiferFigures, UnitFigures};
-use model::{Aquifer, Balance, Unit};
-use river::{Amounts, contribution, from_below, from_own};
+use model::{Aquifer, Balance};
+use river::{Routed, Split, Tree, contribution};
 
-// A unit's figures from what it gathers, what arrives and what is committed.
-fn of_unit(u: &Unit, gained: u64, lost: u64, arrived: u64, committed: u64) -> UnitFigures
-    requires splits { Splits u.now committed arrived }
-    requires gained_le_gathered_limit { (gained ≤ gathered_limit) × (lost ≤ gathered_limit) }
-    ensures { result ≡ figures_from u.now gained lost arrived committed }
+// A unit's figures from what it gathers, and from what is committed and arrives there.
+fn of_unit(gained: u64, lost: u64, split: &Split) -> UnitFigures
+    requires { (gained ≤ gathered_limit) × (lost ≤ gathered_limit) }
+    ensures { result ≡ figures_from split.now.unit.now gained lost split.now.arrived split.now.committed }
 {
     UnitFigures {
         flow: laws::difference(gained, lost),
-        committed,
-        reserve: from_own(u, committed, arrived),
-        availability: laws::difference(gained, lost + committed),
+        committed: split.committed,
+        reserve: split.share_own(),
+        availability: laws::difference(gained, lost + split.committed),
     }
 }
 
 // The figures of each unit, from what the forward pass has left. Backward over the units: an outlet's committed volume is its commitment,
 // another unit's is its share of the demand below.
-pub fn unit_figures(units: &[Unit], amounts: &Amounts) -> [UnitFigures; Balance::UNITS]
-    requires ready { Ready (units_of units.now) }
-    requires flows { Flows (units_of units.now) amounts.now }
-    ensures { result ≡ figures.all_unit_figures (units_of units.now) }
+pub fn unit_figures(routed: &Routed) -> [UnitFigures; Balance::UNITS]
+    ensures { result ≡ figures.all_unit_figures (units_of routed.now) }
 {
+    let units = routed.units();
+    let amounts = routed.amounts();
     let mut all = [UnitFigures::default(); Balance::UNITS];
     for i in (0..units.len()).rev() {
-        let u = &units[i];
-        let committed = match usize::from(u.downstream).checked_sub(1) {
-            None => u64::from(u.commitment),
+        let unit = &units[i];
+        let committed = match usize::from(unit.downstream).checked_sub(1) {
+            None => u64::from(unit.commitment),
             Some(k) => {
                 let own = contribution(amounts.gained[i], amounts.lost[i]);
-                from_below(
-                    &units[k],
-                    all[k].committed,
-                    amounts.arrived[k],
-                    amounts.before[i],
-                    own,
-                )
+                let below = Split {
+                    unit: &units[k],
+                    committed: all[k].committed,
+                    arrived: amounts.arrived[k],
+                };
+                below.share_above(amounts.before[i], own)
             }
         };
-        all[i] = of_unit(
-            u,
-            amounts.gained[i],
-            amounts.lost[i],
-            amounts.arrived[i],
+        let split = Split {
+            unit,
             committed,
-        );
+            arrived: amounts.arrived[i],
+        };
+        all[i] = of_unit(amounts.gained[i], amounts.lost[i], &split);
     }
     all
 }
 
 // The figures of each unit.
-pub fn of_units(units: &[Unit]) -> [UnitFigures; Balance::UNITS]
-    requires { Ready (units_of units.now) }
-    ensures { result ≡ figures.all_unit_figures (units_of units.now) }
+pub fn of_units(tree: &Tree) -> [UnitFigures; Balance::UNITS]
+    ensures { result ≡ figures.all_unit_figures (units_of tree.now) }
 {
-    let mut amounts = Amounts::none();
-    amounts.flow(units);
-    unit_figures(units, &amounts)
+    unit_figures(&tree.routed())
 }
 
 // An aquifer's recharge and availability, from what it gains and what it loses.

@@ -1,15 +1,15 @@
 // Which outlet a unit drains to.
-ghost use Rattle.river.specs.Flow.{Ready};
 ghost use Rattle.river.specs.Units.{units_of};
 ghost use Rattle.reach.specs.Passes.{Outlets};
 
-use model::{Balance, Unit};
+use model::Balance;
+use river::Tree;
 
 // Backward over the units: an outlet is its own, another unit's outlet is its downstream unit's.
-pub fn outlets(units: &[Unit]) -> [usize; Balance::UNITS]
-    requires { Ready (units_of units.now) }
-    ensures { Outlets (units_of units.now) result }
+pub fn outlets(tree: &Tree) -> [usize; Balance::UNITS]
+    ensures { Outlets (units_of tree.now) result }
 {
+    let units = tree.units();
     let mut ends = [0; Balance::UNITS];
     for i in (0..units.len()).rev() {
         ends[i] = match usize::from(units[i].downstream).checked_sub(1) {

@@ -11,6 +11,7 @@ ghost use Rattle.refusal.specs.Steps.{entries_view};
 
 use basin::places::{exists, is_volume};
 use model::{Answer, Aquifer, Balance, Refusal, Title, Unit};
+use river::Tree;
 
 // A title that names a unit, an aquifer or a use that is not there, of n units and m aquifers.
 fn missing(t: Title, n: usize, m: usize) -> Answer
@@ -96,13 +97,12 @@ fn overfull(
 }
 
 // A transfer between units that goes to the same unit, or to one that lies below the giver.
-fn goes_down(units: &[Unit], m: usize, t: Title) -> bool
-    requires ready { Ready (units_of units.now) }
-    requires there { steps.missing_fault (length units.now) m t ≡ accepted }
-    ensures { result ≡ steps.goes_down (units_of units.now) t }
+fn goes_down(tree: &Tree, m: usize, t: Title) -> bool
+    requires { steps.missing_fault (length tree.now) m t ≡ accepted }
+    ensures { result ≡ steps.goes_down (units_of tree.now) t }
 {
     if let Title::UnitTransfer { from, to, .. } = t {
-        from == to || reach::lies_below(units, usize::from(from) - 1, usize::from(to) - 1)
+        from == to || reach::lies_below(tree, usize::from(from) - 1, usize::from(to) - 1)
     } else {
         false
     }
@@ -121,7 +121,7 @@ pub fn early(
     ensures { result ≡ steps.early_fault (entries_view units n aquifers m given) t }
 {
     missing(t, n, m)?;
-    if goes_down(&units[..n], m, t) {
+    if goes_down(&Tree::new(&units[..n]), m, t) {
         return Err(Refusal::ReceiverBelow);
     }
     if !is_volume(t.volume()) {

@@ -15,6 +15,7 @@ ghost use Rattle.refusal.specs.Steps.{entries_view};
 use crate::Giver;
 use figures::UnitFigures;
 use model::{Aquifer, Balance, Title, Unit};
+use river::Tree;
 
 // Figures of a unit with a negative flow or a negative availability.
 fn in_deficit(f: UnitFigures) -> bool
@@ -42,12 +43,13 @@ fn dry_by(
 }
 
 // The outlet of the unit at an index, or some unit that drains there, has a negative flow or a negative availability.
-fn dry(units: &[Unit], j: usize) -> bool
-    requires { Ready (units_of units.now) × (j < length units.now) }
-    ensures { result ≡ grants.dry (units_of units.now) j }
+fn dry(tree: &Tree, j: usize) -> bool
+    requires { j < length tree.now }
+    ensures { result ≡ grants.dry (units_of tree.now) j }
 {
-    let ends = reach::outlets(units);
-    dry_by(figures::of_units(units), ends, units.len(), ends[j])
+    let ends = reach::outlets(tree);
+    let n = tree.units().len();
+    dry_by(figures::of_units(tree), ends, n, ends[j])
 }
 
 // An aquifer with a negative availability.
@@ -83,7 +85,7 @@ pub fn no_water(
     ensures { result ≡ grants.no_water (entries_view units n aquifers m 0) t }
 {
     match giver(t) {
-        Giver::FromUnit(unit) => dry(&units[..n], usize::from(unit) - 1),
+        Giver::FromUnit(unit) => dry(&Tree::new(&units[..n]), usize::from(unit) - 1),
         Giver::FromAquifer(aquifer) => drained(aquifers[usize::from(aquifer) - 1]),
     }
 }

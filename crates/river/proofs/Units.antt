@@ -39,6 +39,10 @@ counted_units v us h e =
       unit = λ k g. get_or-take v.units us k empty_unit g ∙ sym (e k g);
     }
 
+-- The units that a tree gives are its value.
+pub ready_at : {us ws : List Unit} → us ≡ ws → Ready (units_of us) → Ready (units_of ws)
+ready_at e r = rw e at r
+
 module _ (v w : View) (s : SameUnits v w) where
   downstream_same : (k : ℕ) → k < v.units → downstream w k ≡ downstream v k
   downstream_same k h = ap (λ (u : Unit). u.downstream) (s.unit k h)

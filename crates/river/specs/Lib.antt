@@ -4,4 +4,5 @@ pub mod Reserve
 pub mod Wells
 pub mod Passes
 pub mod Units
+pub mod Split
 pub mod Limits

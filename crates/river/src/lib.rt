@@ -4,7 +4,8 @@
 mod flow;
 mod reserve;
 mod search;
+mod tree;
 
-pub use flow::Amounts;
-pub use reserve::{contribution, from_below, from_own};
-pub use search::first_negative;
+pub use flow::{Amounts, Routed};
+pub use reserve::{Split, contribution};
+pub use tree::Tree;

@@ -1,8 +1,7 @@
 // Committed volume and own reserve: a demand split over running totals.
-ghost use Rattle.std.specs.Prelude.{◌≡◌, ◌+◌, ◌-◌, ◌*◌, ◌/◌, ◌≤◌, ◌<◌, cond, eqb};
-ghost use Rattle.river.specs.Reserve as reserves;
+ghost use Rattle.std.specs.Prelude.{◌≡◌, ◌-◌, ◌+◌, ◌*◌, ◌/◌, ◌≤◌, ◌<◌};
 ghost use Rattle.river.specs.Passes.{Splits, from_below, from_own};
-ghost use Rattle.river.specs.Limits.{committed_limit, split_limit};
+ghost use Rattle.river.specs.Limits.{split_limit};
 
 use model::Unit;
 
@@ -13,75 +12,69 @@ pub fn contribution(gained: u64, lost: u64) -> u64
     gained.saturating_sub(lost)
 }
 
-// What a unit contributes to itself: natural runoff, returns and imports.
-fn inflow(u: &Unit) -> u64
-    ensures { result ≡ reserves.inflow u.now }
-{
-    u64::from(u.runoff) + u64::from(u.returns) + u64::from(u.imports)
+// A unit with so much committed and so much arrived from above, whose demand is small enough to be split over its contributors: the units
+// that drain straight into it, in number order, and last itself.
+#[derive(Clone, Copy)]
+pub struct Split<'a> {
+    pub unit: &'a Unit,
+    pub committed: u64,
+    pub arrived: u64,
+    pub ghost splits: { Splits unit.now committed arrived },
 }
 
-// A unit's demand: extraction, exports and committed volume.
-fn demand(u: &Unit, committed: u64) -> u64
-    requires { committed ≤ committed_limit }
-    ensures { result ≡ reserves.demand u.now committed }
-{
-    u64::from(u.extraction) + u64::from(u.exports) + committed
-}
+impl Split<'_> {
+    ghost use Rattle.river.specs.Split.{demand_of, total_of};
 
-// The floor of what so much contributed gets of a demand. Where nothing is contributed the division is spared.
-fn part(demand: u64, contributed: u64, total: u64) -> u64
-    requires { (0 < total) × (demand ≤ split_limit) × (contributed ≤ split_limit) }
-    ensures { result ≡ demand * contributed / total }
-{
-    if contributed == 0 {
-        return 0;
+    // The unit's demand: extraction, exports and committed volume.
+    fn demand(&self) -> u64
+        ensures { result ≡ demand_of self.now }
+    {
+        u64::from(self.unit.extraction) + u64::from(self.unit.exports) + self.committed
     }
-    demand * contributed / total
-}
 
-// What a contributor gets of a demand: the floor with it less the floor without it.
-fn share(demand: u64, total: u64, without: u64, with: u64) -> u64
-    requires { (0 < total) × (demand ≤ split_limit) × (without ≤ with) × (with ≤ split_limit) }
-    ensures { result ≡ reserves.share demand total without with }
-{
-    demand * with / total - part(demand, without, total)
-}
-
-// What a unit above gets of a demand.
-fn share_above(demand: u64, total: u64, before: u64, own: u64) -> u64
-    requires { (demand ≤ split_limit) × (before + own ≤ total) × (total ≤ split_limit) }
-    ensures { result ≡ cond (eqb total 0) 0 (reserves.share demand total before (before + own)) }
-{
-    if total == 0 {
-        return 0;
+    // The total of its contributors: what has arrived, and what the unit contributes to itself, its natural runoff, returns and imports.
+    fn total(&self) -> u64
+        ensures { result ≡ total_of self.now }
+    {
+        self.arrived
+            + u64::from(self.unit.runoff)
+            + u64::from(self.unit.returns)
+            + u64::from(self.unit.imports)
     }
-    share(demand, total, before, before + own)
-}
 
-// What a unit gets of its own demand: what the units above leave of it.
-fn share_own(demand: u64, total: u64, before: u64) -> u64
-    requires { (demand ≤ split_limit) × (before ≤ total) × (total ≤ split_limit) }
-    ensures { result ≡ cond (eqb total 0) demand (reserves.share demand total before total) }
-{
-    if total == 0 {
-        return demand;
+    // The floor of what so much contributed gets of the demand. Where nothing is contributed the division is spared.
+    fn part(&self, contributed: u64) -> u64
+        requires some { 0 < total_of self.now }
+        requires within { contributed ≤ split_limit }
+        ensures { result ≡ demand_of self.now * contributed / total_of self.now }
+    {
+        if contributed == 0 {
+            return 0;
+        }
+        self.demand() * contributed / self.total()
     }
-    demand - part(demand, before, total)
-}
 
-// What a unit above gets of the demand of unit w, which has so much committed and to which so much has arrived.
-pub fn from_below(w: &Unit, committed: u64, arrived: u64, before: u64, own: u64) -> u64
-    requires splits { Splits w.now committed arrived }
-    requires own_bound { before + own ≤ arrived + reserves.inflow w.now }
-    ensures { result ≡ from_below w.now committed arrived before own }
-{
-    share_above(demand(w, committed), arrived + inflow(w), before, own)
-}
+    // What a unit above gets of the demand, with what the contributors before it contribute and its own contribution: the floor with its own
+    // less the floor without it.
+    pub fn share_above(&self, before: u64, own: u64) -> u64
+        requires { before + own ≤ total_of self.now }
+        ensures { result ≡ from_below self.now.unit.now self.now.committed self.now.arrived before own }
+    {
+        let total = self.total();
+        if total == 0 {
+            return 0;
+        }
+        self.demand() * (before + own) / total - self.part(before)
+    }
 
-// What unit u gets of its own demand.
-pub fn from_own(u: &Unit, committed: u64, arrived: u64) -> u64
-    requires { Splits u.now committed arrived }
-    ensures { result ≡ from_own u.now committed arrived }
-{
-    share_own(demand(u, committed), arrived + inflow(u), arrived)
+    // What the unit gets of its own demand: what the units above leave of it.
+    pub fn share_own(&self) -> u64
+        ensures { result ≡ from_own self.now.unit.now self.now.committed self.now.arrived }
+    {
+        let demand = self.demand();
+        if self.total() == 0 {
+            return demand;
+        }
+        demand - self.part(self.arrived)
+    }
 }

@@ -1,12 +1,15 @@
 -- `basin::figures` meets its contract. Assumes nothing.
 use Prim.Native.Nat.{◌≤◌}
-use mathlib.Core.Path.{◌≡◌, refl, sym, ◌∙◌}
+use mathlib.Core.Path.{◌≡◌, refl, sym, ap, ◌∙◌}
+use mathlib.Core.List.{List}
 use lib.ListN.{length, take}
 use native.Mathlib.Omega.{arith}
 use mathlib.Core.Bool.{true}
 use Rattle.model.specs.View.{view_of}
 use Rattle.river.specs.Units.{units_of}
-use Rattle.river.proofs.Units.{SameUnits, counted_units, ready_same}
+use Rattle.river.proofs.Units.{SameUnits, counted_units}
+use Rattle.model.specs.declared.Unit.{Unit}
+use Rattle.figures.specs.Figures.{all_unit_figures}
 use Rattle.figures.proofs.Units.{figures_same}
 use Rattle.figures.proofs.Aquifers.{wells_counted, wells_same}
 use Rattle.basin.specs.Sound.{sound}
@@ -28,20 +31,9 @@ same c = counted_units (view_of c.args.b) c.args.b.units (omega (arith, (sound_r
 enough : (c : In-Some) → c.args.b.aquifer_count ≤ length c.args.b.aquifers
 enough c = omega (arith, (sound_wells_ready _ (is-sound c)).few)
 
-pub shared_ref_as_front-units : goal.shared_ref_as_front-units
-shared_ref_as_front-units c = omega (arith, (sound_ready _ (is-sound (goal.at.shared_ref_as_front-units c).In-Some)).few)
-
 pub shared_ref_as_front-aquifers : goal.shared_ref_as_front-aquifers
 shared_ref_as_front-aquifers c =
     omega (arith, (sound_wells_ready _ (is-sound (goal.at.shared_ref_as_front-aquifers c).In-Some)).few)
-
-pub unit_figures-requires : goal.unit_figures-requires
-unit_figures-requires c =
-    let here = (goal.at.unit_figures-requires c).In-Some in
-    record {
-      ready = ready_same _ _ (same here) (sound_ready _ (is-sound here));
-      flows = c.in-Some.ensures.amounts;
-    }
 
 pub aquifer_figures-requires : goal.aquifer_figures-requires
 aquifer_figures-requires c =
@@ -51,6 +43,9 @@ aquifer_figures-requires c =
 pub returns : goal.returns
 returns c =
     let here = (goal.at.returns c).In-Some in
-    accepted_reply _ _ _ (is-sound here) (c.unit_figures.ensures ∙ figures_same _ _ (same here) (sound_ready _ (is-sound here)))
+    accepted_reply _ _ _ (is-sound here)
+    (c.unit_figures.ensures
+    ∙ ap (λ (us : List Unit). all_unit_figures (units_of us)) c.in-Some.ensures.units
+    ∙ figures_same _ _ (same here) (sound_ready _ (is-sound here)))
     (c.aquifer_figures.ensures
     ∙ wells_same (view_of c.args.b) c.args.b.aquifers (enough here) (λ k h. refl) (sound_wells_ready _ (is-sound here)))

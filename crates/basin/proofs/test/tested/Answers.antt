@@ -2,9 +2,11 @@
 use mathlib.Core.Path.{◌≡◌, refl, sym, ◌∙◌}
 use native.Mathlib.Omega.{arith}
 use mathlib.Core.Bool.{Bool, true, ◌&&◌}
-use lib.ListN.{take}
+use lib.ListN.{take, length, length-take}
+use Prim.Native.Nat.{◌≤◌}
 use Rattle.model.specs.View.{View, view_of}
 use Rattle.river.specs.Flow.{Ready}
+use Rattle.river.specs.Passes.{Flows}
 use Rattle.river.specs.Units.{units_of}
 use Rattle.river.proofs.Units.{SameUnits, counted_units, ready_same}
 use Rattle.basin.specs.Sound.{sound, sound_counts, entries_hold}
@@ -16,12 +18,12 @@ use Rattle.basin.proofs.test.tested.Goals.{Else-not-counts_sound, Else-not-entri
 pub returns-then-not-counts_sound : goal.returns-then-not-counts_sound
 returns-then-not-counts_sound c = record {
   value = in_order_lem _ _ (stop_call _ _ _ c.counts_sound.ensures c.if-not-counts_sound.true);
-  amounts = tt;
+  units = tt;
 }
 
 -- The view of the balance, and that the counts are within their limits.
 abbrev counted : Else-not-counts_sound → View
-counted c = view_of c.args.b
+counted c = view_of c.args.b.now
 
 counts-hold : (c : Else-not-counts_sound) → sound_counts (counted c) ≡ true
 counts-hold c = call_holds c.counts_sound.ensures c.if-not-counts_sound.false
@@ -42,7 +44,7 @@ pub returns-then-not-entries_hold : goal.returns-then-not-entries_hold
 returns-then-not-entries_hold c = record {
   value = in_order_lem _ _
       (past-counts (goal.at.returns-then-not-entries_hold c).Else-not-counts_sound _ _ (stop_call _ _ _ c.entries_hold.ensures c.if-not-entries_hold.true));
-  amounts = tt;
+  units = tt;
 }
 
 -- The same where the entries hold.
@@ -56,14 +58,22 @@ ready : (c : Else-not-entries_hold) → Ready (held c)
 ready c = entries_ready (held c) (few (goal.at.Else-not-entries_hold c).Else-not-counts_sound) (entries-held c)
 
 -- The counted units are those of the balance.
-same : (c : Else-not-entries_hold) → SameUnits (held c) (units_of (take c.args.b.unit_count c.args.b.units))
-same c =
-    counted_units (held c) c.args.b.units (omega (arith, (few (goal.at.Else-not-entries_hold c).Else-not-counts_sound).units)) (λ k h. refl)
+same : (c : Else-not-entries_hold) → c.args.b.now.unit_count ≤ length c.args.b.now.units
+    → SameUnits (held c) (units_of (take c.args.b.now.unit_count c.args.b.now.units))
+same c h = counted_units (held c) c.args.b.now.units h (λ k h. refl)
 
-pub flow-requires : goal.flow-requires
-flow-requires c =
-    let here = (goal.at.flow-requires c).Else-not-entries_hold in
-    record { ready = ready_same _ _ (same here) (ready here); clear = c.none-amounts.ensures }
+pub new-requires : goal.new-requires
+new-requires c =
+    let here = (goal.at.new-requires c).Else-not-entries_hold in
+    let b = c.args.b.now in
+    ready_same _ _ (same here (omega (arith, length-take b.unit_count b.units))) (ready here)
+
+-- The routed tree is that of the counted units, and its amounts are those of its units.
+counted-units : (c : After-flowing) → c.routed-routed.result ≡ take c.args.b.now.unit_count c.args.b.now.units
+counted-units c = c.routed-routed.ensures ∙ c.new.ensures
+
+flows : (c : After-flowing) → Flows (units_of (take c.args.b.now.unit_count c.args.b.now.units)) c.amounts-amounts.result.now
+flows c = rw (counted-units c) at c.amounts-amounts.ensures
 
 pub flowing-requires : goal.flowing-requires
 flowing-requires c = (ready (goal.at.flowing-requires c).Else-not-entries_hold).few
@@ -71,15 +81,16 @@ flowing-requires c = (ready (goal.at.flowing-requires c).Else-not-entries_hold).
 -- The test of the flows, by what the forward pass gives.
 tested-flows : (c : After-flowing) → c.flowing.result ≡ sound (held (goal.at.After-flowing c).Else-not-entries_hold)
 tested-flows c =
+    let b = c.args.b.now in
     let here = (goal.at.After-flowing c).Else-not-entries_hold in
     in_order_lem _ _
     (past-counts (goal.at.After-flowing c).Else-not-counts_sound _ _
     (go_call _ _ _ _ c.entries_hold.ensures c.if-not-entries_hold.false
-    (c.flowing.ensures ∙ none_negative _ _ (same here) _ _ c.flow.ensures.gained c.flow.ensures.lost)))
+    (c.flowing.ensures ∙ none_negative _ _ (same here (omega (arith, length-take b.unit_count b.units))) _ _ (flows c).gained (flows c).lost)))
 
 pub returns-then-not-flowing : goal.returns-then-not-flowing
 returns-then-not-flowing c =
-    record { value = sym c.if-not-flowing.true ∙ tested-flows (goal.at.returns-then-not-flowing c).After-flowing; amounts = tt }
+    record { value = sym c.if-not-flowing.true ∙ tested-flows (goal.at.returns-then-not-flowing c).After-flowing; units = tt }
 
 pub returns : goal.returns
-returns c = record { value = sym c.if-not-flowing.false ∙ tested-flows (goal.at.returns c).After-flowing; amounts = c.flow.ensures }
+returns c = record { value = sym c.if-not-flowing.false ∙ tested-flows (goal.at.returns c).After-flowing; units = counted-units (goal.at.returns c).After-flowing }

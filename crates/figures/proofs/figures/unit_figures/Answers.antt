@@ -1,14 +1,16 @@
 -- `figures::unit_figures` meets its contract. Assumes nothing.
-use Rattle.std.proofs.Common.{◌≡◌, ◌<◌, ◌-◌, suc, false, true, sym, ap, ◌∙◌, length, get_or, arith}
+use Rattle.std.proofs.Common.{◌≡◌, ◌<◌, ◌-◌, suc, false, true, sym, ap, ◌∙◌, List, length, get_or, arith}
 use Rattle.laws.proofs.Arrays.{filled_down_start, filled_down_more, filled_table}
 use Rattle.river.specs.Reserve.{committed}
+use Rattle.river.specs.Passes.{Flows}
 use Rattle.river.specs.Units.{units_of}
 use Rattle.river.proofs.Flows.{gathered_small}
 use Rattle.river.proofs.Passing.{onward_of}
 use Rattle.river.proofs.Reserves.{committed_outlet, splits}
 use Rattle.river.proofs.Stepping.{Share, share_of}
 use Rattle.figures.specs.declared.UnitFigures.{UnitFigures}
-use Rattle.figures.specs.Figures.{unit_figures, no_unit_figures}
+use Rattle.model.specs.declared.Unit.{Unit}
+use Rattle.figures.specs.Figures.{unit_figures, no_unit_figures, all_unit_figures}
 use Rattle.figures.proofs.Units.{figures_from_lem}
 use Rattle.figures.proofs.figures.unit_figures.Goals as goal
 use Rattle.figures.proofs.figures.unit_figures.Goals.{in-None, in-Some, After-contribution-own, In-loop-i, Joined-checked_sub}
@@ -24,70 +26,85 @@ loop-i-init c =
     } in
     rw e (filled_down_start 64 no_unit_figures _ _)
 
+-- The amounts are those of the units.
+flows : (c : In-loop-i) → Flows (units_of c.units-units.result.now) c.amounts-amounts.result.now
+flows c = rw c.units-units.ensures.units c.amounts-amounts.ensures
+
 -- The unit that the turn passes.
-passed : (c : In-loop-i) → c.loop-i.i - 1 < length c.args.units.now
+passed : (c : In-loop-i) → c.loop-i.i - 1 < length c.units-units.result.now
 passed c = omega arith
 
 -- What the unit gets of the demand below it.
 shared : (c : After-contribution-own)
-    → Share (units_of c.args.units.now) (c.loop-i.i - 1) c.in-Some.k (get_or c.loop-i.all c.in-Some.k no_unit_figures).committed
-    (get_or c.args.amounts.now.arrived c.in-Some.k 0) (get_or c.args.amounts.now.before (c.loop-i.i - 1) 0) c.contribution-own.result
+    → Share (units_of c.units-units.result.now) (c.loop-i.i - 1) c.in-Some.k (get_or c.loop-i.all c.in-Some.k no_unit_figures).committed
+    (get_or c.amounts-amounts.result.now.arrived c.in-Some.k 0) (get_or c.amounts-amounts.result.now.before (c.loop-i.i - 1) 0) c.contribution-own.result
 shared c =
-    let v = units_of c.args.units.now in
+    let v = units_of c.units-units.result.now in
     let j = c.loop-i.i - 1 in
     let h = passed (goal.at.After-contribution-own c).In-loop-i in
-    let b = onward_of v c.requires.ready j c.in-Some.k h (omega (arith, c.from.ensures, c.in-Some.ensures)) in
-    share_of v c.requires.ready c.args.amounts.now c.requires.flows j c.in-Some.k h b _ _
+    let b = onward_of v c.units-units.ensures.ready j c.in-Some.k h (omega (arith, c.from.ensures, c.in-Some.ensures)) in
+    share_of v c.units-units.ensures.ready c.amounts-amounts.result.now (flows (goal.at.After-contribution-own c).In-loop-i) j c.in-Some.k h b _ _
     (ap (λ (x : UnitFigures). x.committed) (c.loop-i.invariant.done c.in-Some.k (omega (arith, b.later)) b.within)) c.contribution-own.ensures
 
-pub from_below-committed-requires : goal.from_below-committed-requires
-from_below-committed-requires c =
-    let s = shared (goal.at.from_below-committed-requires c).After-contribution-own in
-    record { splits = s.split; own_bound = s.within }
+pub invariant_of-below : goal.invariant_of-below
+invariant_of-below c = record { splits = (shared (goal.at.invariant_of-below c).After-contribution-own).split }
+
+pub share_above-committed-requires : goal.share_above-committed-requires
+share_above-committed-requires c = (shared (goal.at.share_above-committed-requires c).After-contribution-own).within
 
 -- The unit's committed volume.
-volume_is : (c : Joined-checked_sub) → c.match-checked_sub.committed ≡ committed (units_of c.args.units.now) (c.loop-i.i - 1)
+volume_is : (c : Joined-checked_sub) → c.match-checked_sub.committed ≡ committed (units_of c.units-units.result.now) (c.loop-i.i - 1)
 volume_is c =
-    let v = units_of c.args.units.now in
+    let v = units_of c.units-units.result.now in
     let j = c.loop-i.i - 1 in
-    let r = c.requires.ready in
+    let r = c.units-units.ensures.ready in
     let h = passed (goal.at.Joined-checked_sub c).In-loop-i in
     elim c.match-checked_sub.branch [
       | in-None w ↦ w.committed-is ∙ w.from-committed.ensures ∙ sym (committed_outlet v j (omega (arith, c.from.ensures, w.in-None.ensures)))
       | in-Some w ↦
           let k = w.in-Some.k in
           let b = onward_of v r j k h (omega (arith, c.from.ensures, w.in-Some.ensures)) in
-          let s = share_of v r c.args.amounts.now c.requires.flows j k h b _ _
+          let s = share_of v r c.amounts-amounts.result.now (flows (goal.at.Joined-checked_sub c).In-loop-i) j k h b _ _
           (ap (λ (x : UnitFigures). x.committed) (c.loop-i.invariant.done k (omega (arith, b.later)) b.within)) w.contribution-own.ensures in
-          w.committed-is ∙ w.from_below-committed.ensures ∙ s.gets
+          w.committed-is ∙ w.share_above-committed.ensures ∙ s.gets
     ]
+
+pub invariant_of-split : goal.invariant_of-split
+invariant_of-split c =
+    let v = units_of c.units-units.result.now in
+    let j = c.loop-i.i - 1 in
+    let here = (goal.at.invariant_of-split c).In-loop-i in
+    let h = passed here in
+    rw ((flows here).totals.each_arrived j h, volume_is (goal.at.invariant_of-split c).Joined-checked_sub)
+    (record { splits = splits v c.units-units.ensures.ready j h })
 
 pub of_unit-requires : goal.of_unit-requires
 of_unit-requires c =
-    let v = units_of c.args.units.now in
+    let v = units_of c.units-units.result.now in
     let j = c.loop-i.i - 1 in
-    let h = passed (goal.at.of_unit-requires c).In-loop-i in
-    let r = c.requires.ready in
-    let f = c.requires.flows in
-    rw (f.gained.each j h, f.lost.each j h, f.totals.each_arrived j h, volume_is (goal.at.of_unit-requires c).Joined-checked_sub)
-    (record { splits = splits v r j h; gained_le_gathered_limit = (gathered_small v false r j h, gathered_small v true r j h) })
+    let here = (goal.at.of_unit-requires c).In-loop-i in
+    let h = passed here in
+    let r = c.units-units.ensures.ready in
+    let f = flows here in
+    rw (f.gained.each j h, f.lost.each j h) (gathered_small v false r j h, gathered_small v true r j h)
 
 pub loop-i-preserved : goal.loop-i-preserved
 loop-i-preserved c =
-    let v = units_of c.args.units.now in
+    let v = units_of c.units-units.result.now in
     let j = c.loop-i.i - 1 in
     let h = passed (goal.at.loop-i-preserved c).In-loop-i in
-    let f = c.requires.flows in
+    let f = flows (goal.at.loop-i-preserved c).In-loop-i in
     let e : c.loop-i.i ≡ suc j = omega arith in
     let x = figures_from_lem v j _ _ _ _ c.of_unit.result (f.gained.each j h) (f.lost.each j h) (f.totals.each_arrived j h)
     (volume_is (goal.at.loop-i-preserved c).Joined-checked_sub) c.of_unit.ensures in
-    filled_down_more 64 no_unit_figures (unit_figures v) v.units j c.loop-i.all _ (omega (arith, c.requires.ready.few)) h x
+    filled_down_more 64 no_unit_figures (unit_figures v) v.units j c.loop-i.all _ (omega (arith, c.units-units.ensures.ready.few)) h x
     (rw e at c.loop-i.invariant)
 
 pub returns : goal.returns
 returns c =
-    let v = units_of c.args.units.now in
+    let v = units_of c.units-units.result.now in
     let e : c.loop-i.i ≡ 0 = omega arith in
     let f = rw e at c.loop-i.invariant in
     filled_table 64 no_unit_figures (unit_figures v) v.units _
     (record { long = f.long; done = λ j h. f.done j (omega arith) h; rest = f.rest })
+    ∙ ap (λ (us : List Unit). all_unit_figures (units_of us)) c.units-units.ensures.units

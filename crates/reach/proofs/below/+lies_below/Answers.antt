@@ -2,28 +2,33 @@
 use Rattle.std.proofs.Common.{ℕ, ◌≡◌, sym, arith, suc, eqb, ◌||◌}
 use Rattle.reach.specs.Reach.{lies_below}
 use borrow.Author.Tests.{eq-eqb, ne_eqb}
-use Rattle.river.specs.Flow.{downstream}
+use Rattle.river.specs.Flow.{downstream, Ready}
 use Rattle.river.specs.Units.{units_of}
+use Rattle.river.proofs.Units.{ready_at}
 use Rattle.river.proofs.Passing.{onward_of}
 use Rattle.reach.proofs.Ways.{below_none, below_step}
 use Rattle.reach.proofs.below.+lies_below.Goals as goal
 use Rattle.reach.proofs.below.+lies_below.Goals.{In-Some}
 
--- The place of the downstream unit.
-next : (t : ℕ) (c : In-Some t) → downstream (units_of c.args.units.now) c.args.u ≡ suc c.in-Some.next
-next t c = omega (arith, c.from.ensures, c.in-Some.ensures)
+-- The units make a tree, and the place of the downstream unit.
+tree : (t : ℕ) (c : In-Some t) → Ready (units_of c.args.tree.now)
+tree t c = ready_at c.units-units.ensures.units c.units-units.ensures.ready
 
-step : (t : ℕ) (c : In-Some t) → lies_below (units_of c.args.units.now) c.args.u c.args.w
-    ≡ (eqb c.in-Some.next c.args.w || lies_below (units_of c.args.units.now) c.in-Some.next c.args.w)
-step t c = below_step (units_of c.args.units.now) c.requires.0 c.args.u c.in-Some.next c.args.w c.requires.1 (next t c)
+next : (t : ℕ) (c : In-Some t) → downstream (units_of c.args.tree.now) c.args.u ≡ suc c.in-Some.next
+next t c = omega (arith, rw c.units-units.ensures.units at c.from.ensures, c.in-Some.ensures)
+
+step : (t : ℕ) (c : In-Some t) → lies_below (units_of c.args.tree.now) c.args.u c.args.w
+    ≡ (eqb c.in-Some.next c.args.w || lies_below (units_of c.args.tree.now) c.in-Some.next c.args.w)
+step t c = below_step (units_of c.args.tree.now) (tree t c) c.args.u c.in-Some.next c.args.w c.requires (next t c)
 
 pub lies_below-requires : goal.lies_below-requires
 lies_below-requires t c =
-    let b = onward_of (units_of c.args.units.now) c.requires.0 c.args.u c.in-Some.next c.requires.1 (next t (goal.at.lies_below-requires t c).In-Some) in
-    (omega (arith, b.later, b.within, c.requires.0.few, c.decreases), (c.requires.0, b.within))
+    let here = (goal.at.lies_below-requires t c).In-Some in
+    let b = onward_of (units_of c.args.tree.now) (tree t here) c.args.u c.in-Some.next c.requires (next t here) in
+    (omega (arith, b.later, b.within, (tree t here).few, c.decreases), b.within)
 
 pub returns-in-None : goal.returns-in-None
-returns-in-None t c = sym (below_none (units_of c.args.units.now) c.args.u c.args.w (omega (arith, c.from.ensures, c.in-None.ensures)))
+returns-in-None t c = sym (below_none (units_of c.args.tree.now) c.args.u c.args.w (omega (arith, rw c.units-units.ensures.units at c.from.ensures, c.in-None.ensures)))
 
 pub returns-then-next-w : goal.returns-then-next-w
 returns-then-next-w t c =

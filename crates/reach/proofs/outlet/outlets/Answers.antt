@@ -14,16 +14,16 @@ loop-i-init c = filled_down_start 64 0 _ _
 
 pub loop-i-preserved : goal.loop-i-preserved
 loop-i-preserved c =
-    let v = units_of c.args.units.now in
+    let v = units_of c.units-units.result.now in
     let j = c.loop-i.i - 1 in
-    let h : j < length c.args.units.now = omega arith in
+    let h : j < length c.units-units.result.now = omega arith in
     let e : c.loop-i.i ≡ suc j = omega arith in
     let found : c.match-checked_sub.ends ≡ outlet v j =
     elim c.match-checked_sub.branch [
       | in-None w ↦ w.ends-is ∙ sym (outlet_self v j (omega (arith, c.from.ensures, w.in-None.ensures)))
       | in-Some w ↦
           let d : downstream v j ≡ suc w.in-Some.k = omega (arith, c.from.ensures, w.in-Some.ensures) in
-          let b = onward_of v c.requires j w.in-Some.k h d in
-          w.ends-is ∙ c.loop-i.invariant.done w.in-Some.k (omega (arith, b.later)) b.within ∙ sym (upstream_same v c.requires j w.in-Some.k h d)
+          let b = onward_of v c.units-units.ensures.ready j w.in-Some.k h d in
+          w.ends-is ∙ c.loop-i.invariant.done w.in-Some.k (omega (arith, b.later)) b.within ∙ sym (upstream_same v c.units-units.ensures.ready j w.in-Some.k h d)
     ] in
-    filled_down_more 64 0 (outlet v) v.units j c.loop-i.ends _ (omega (arith, c.requires.few)) h found (rw e at c.loop-i.invariant)
+    filled_down_more 64 0 (outlet v) v.units j c.loop-i.ends _ (omega (arith, c.units-units.ensures.ready.few)) h found (rw e at c.loop-i.invariant)

@@ -1,5 +1,6 @@
 -- `refusal::early` meets its contract. Assumes nothing.
-use Rattle.std.proofs.Common.{◌≡◌, refl, sym, subst, ◌∙◌, ℕ, take, Ok, arith, rules}
+use Rattle.std.proofs.Common.{◌≡◌, refl, ap, ◌∙◌, List, take, Ok, arith, rules}
+use Rattle.model.specs.declared.Unit.{Unit}
 use Rattle.model.specs.View.{View}
 use Rattle.river.specs.Flow.{Ready}
 use Rattle.river.specs.Units.{units_view, units_of}
@@ -23,20 +24,21 @@ ready c = ready_same (units_view c.args.units c.args.n) (entries c) (record { co
 there : (c : In_ok-missing) → missing_fault c.args.n c.args.m c.args.t ≡ Ok tt
 there c = search rules
 
-pub goes_down-requires-clause-ready : goal.goes_down-requires-clause-ready
-goes_down-requires-clause-ready c =
-    let s = (goal.at.goes_down-requires-clause-ready c).Start in ready_same _ _ (same s) (ready s)
+pub new-requires : goal.new-requires
+new-requires c = let s = (goal.at.new-requires c).Start in ready_same _ _ (same s) (ready s)
 
-pub goes_down-requires-clause-there : goal.goes_down-requires-clause-there
-goes_down-requires-clause-there c =
-    let s = (goal.at.goes_down-requires-clause-there c).Start in
-    subst (λ (n : ℕ). missing_fault n c.args.m c.args.t ≡ Ok tt) (sym (same s).count) (there (goal.at.goes_down-requires-clause-there c).In_ok-missing)
+pub goes_down-requires : goal.goes_down-requires
+goes_down-requires c =
+    let s = (goal.at.goes_down-requires c).Start in
+    rw (c.new.ensures, (same s).count) (there (goal.at.goes_down-requires c).In_ok-missing)
 
 -- Whether the title goes down is the same over the counted units and over all entries.
 way : (c : After-goes_down) → c.goes_down.result ≡ goes_down (entries (goal.at.After-goes_down c).Start) c.args.t
 way c =
     let s = (goal.at.After-goes_down c).Start in
-    c.goes_down.ensures ∙ goes_down_same (entries s) _ (same s) (ready s) c.args.m c.args.t (there (goal.at.After-goes_down c).In_ok-missing)
+    c.goes_down.ensures
+    ∙ ap (λ (us : List Unit). goes_down (units_of us) c.args.t) c.new.ensures
+    ∙ goes_down_same (entries s) _ (same s) (ready s) c.args.m c.args.t (there (goal.at.After-goes_down c).In_ok-missing)
 
 pub returns-then-goes_down : goal.returns-then-goes_down
 returns-then-goes_down c = let e = way (goal.at.returns-then-goes_down c).After-goes_down in search rules

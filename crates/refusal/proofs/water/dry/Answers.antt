@@ -4,11 +4,14 @@ use mathlib.Core.Path.{◌≡◌, ap, ◌∙◌}
 use mathlib.Core.Bool.{not, ◌&&◌}
 use mathlib.Core.List.{List}
 use lib.Dec.{eqb}
-use lib.ListN.{get_or}
+use lib.ListN.{length, get_or}
 use native.Mathlib.Omega.{arith}
 use Rattle.laws.proofs.Arrays.{get_or_table}
 use Rattle.laws.proofs.Every.{every_same}
+use Rattle.model.specs.declared.Unit.{Unit}
 use Rattle.model.specs.View.{View}
+use Rattle.river.specs.Units.{units_of}
+use Rattle.river.proofs.Units.{ready_at}
 use Rattle.figures.specs.declared.UnitFigures.{UnitFigures}
 use Rattle.figures.specs.Figures.{no_unit_figures, unit_figures, all_unit_figures}
 use Rattle.reach.specs.Passes.{Outlets}
@@ -29,6 +32,8 @@ same v j figures ends e o few inside =
 
 pub returns : goal.returns
 returns c =
-    let start = c in
+    let v = units_of c.args.tree.now in
+    let few = (ready_at c.units-n.ensures.units c.units-n.ensures.ready).few in
     c.dry_by.ensures
-    ∙ same _ start.args.j _ _ c.of_units.ensures c.outlets-ends.ensures start.requires.0.few start.requires.1
+    ∙ ap (λ (us : List Unit). dry_by c.of_units.result c.outlets-ends.result (length us) (get_or c.outlets-ends.result c.args.j 0)) c.units-n.ensures.units
+    ∙ same v c.args.j _ _ c.of_units.ensures c.outlets-ends.ensures few c.requires

@@ -1,6 +1,7 @@
 -- `refusal::no_water` meets its contract: by the unit or the aquifer that gives. Assumes nothing.
-use Rattle.std.proofs.Common.{refl, take, sym, ap, ◌∙◌, ◌<◌, ◌-◌, ℕ, arith}
+use Rattle.std.proofs.Common.{refl, take, sym, ap, ◌∙◌, ◌<◌, ◌-◌, ℕ, List, arith}
 use native.Mathlib.Numerals.{sub-one}
+use Rattle.model.specs.declared.Unit.{Unit}
 use Rattle.model.specs.View.{View}
 use Rattle.river.specs.Flow.{Ready}
 use Rattle.river.specs.Units.{units_view, units_of}
@@ -29,16 +30,20 @@ ready c = ready_same (units_view c.args.units c.args.n) (entries c) (record { co
 giver-inside : (c : After-from) → c.from.result - 1 < c.args.n
 giver-inside c = omega (arith, c.from.ensures, (unit-of (goal.at.After-from c).In-FromUnit).positive, (unit-of (goal.at.After-from c).In-FromUnit).within)
 
+pub new-requires : goal.new-requires
+new-requires c = let s = (goal.at.new-requires c).Start in ready_same _ _ (same s) (ready s)
+
 pub dry-requires : goal.dry-requires
 dry-requires c =
     let s = (goal.at.dry-requires c).Start in
-    (ready_same _ _ (same s) (ready s), omega (arith, (same s).count, giver-inside (goal.at.dry-requires c).After-from))
+    rw c.new.ensures (omega (arith, (same s).count, giver-inside (goal.at.dry-requires c).After-from))
 
 pub returns-in-FromUnit : goal.returns-in-FromUnit
 returns-in-FromUnit c =
     let s = (goal.at.returns-in-FromUnit c).Start in
     let v = entries s in
     c.dry.ensures
+    ∙ ap (λ (us : List Unit). dry (units_of us) (c.from.result - 1)) c.new.ensures
     ∙ dry_same v _ (same s) (ready s) _ (giver-inside (goal.at.returns-in-FromUnit c).After-from)
     ∙ ap (λ (n : ℕ). dry v (n - 1)) c.from.ensures
     ∙ ap (dry v) (sub-one _)

@@ -1,4 +1,4 @@
--- `first_negative` meets its contract. Assumes nothing.
+-- `Tree::first_negative` meets its contract. Assumes nothing.
 use Rattle.std.proofs.Common.{ℕ, ◌≡◌, ◌+◌, ◌-◌, ◌<◌, ◌≤◌, not, ap, sym, ◌∙◌, true, List, ◌∷◌, length, drop, get_or, arith, add-one}
 use Rattle.std.proofs.lemmas.List.{drop_more, length-drop}
 use Rattle.std.specs.Int.Signed.{non_neg}
@@ -12,11 +12,12 @@ use Rattle.river.specs.Flow.{downstream, flow}
 use Rattle.river.specs.Reserve.{contribution}
 use Rattle.river.specs.Units.{units_of}
 use Rattle.river.proofs.Reserves.{flow_reached, total_small}
+use Rattle.river.proofs.Units.{ready_at}
 use Rattle.river.proofs.Firsts.{first_at, first_nothing}
 use Rattle.river.proofs.Passing.{Onward, onward_of, arrived_within}
-use Rattle.river.proofs.search.first_negative.Invariants.{Flowing}
-use Rattle.river.proofs.search.first_negative.Goals as goal
-use Rattle.river.proofs.search.first_negative.Goals.{In-Some, After-loss-lost, In-Some-checked_sub, In_default-checked_sub}
+use Rattle.river.proofs.tree.Tree.first_negative.Invariants.{Flowing}
+use Rattle.river.proofs.tree.Tree.first_negative.Goals as goal
+use Rattle.river.proofs.tree.Tree.first_negative.Goals.{In-Some, After-loss-lost, In-Some-checked_sub, In_default-checked_sub}
 
 -- What the iterator gives: the next unit, and leaves: the units after it.
 record Taken (us : List Unit) (i : ℕ) (u : Unit) (left : List Unit) : Type 0 where
@@ -30,11 +31,11 @@ taken_of us rest left i u e g =
     let more = drop_more us i empty_unit some in
     record { inside = some; unit = cc; rest = cc }
 
-taken : (c : In-Some) → Taken c.args.units.now c.in-Some.i c.in-Some.u.now (iter_rest c.next.new.self.iter)
+taken : (c : In-Some) → Taken c.args.self.now c.in-Some.i c.in-Some.u.now (iter_rest c.next.new.self.iter)
 taken c =
-    taken_of _ _ _ _ _ (c.loop-i.invariant.rest ∙ ap (λ (k : ℕ). drop k c.args.units.now) (sym c.in-Some.ensures.steps.1)) c.in-Some.ensures.steps.0
+    taken_of _ _ _ _ _ (c.loop-i.invariant.rest ∙ ap (λ (k : ℕ). drop k c.args.self.now) (sym c.in-Some.ensures.steps.1)) c.in-Some.ensures.steps.0
 
-flowing : (c : In-Some) → Flowing (units_of c.args.units.now) c.in-Some.i c.loop-i.arrived
+flowing : (c : In-Some) → Flowing (units_of c.args.self.now) c.in-Some.i c.loop-i.arrived
 flowing c = rw c.in-Some.ensures.steps.1 c.loop-i.invariant.flowing
 
 next_is : (c : In-Some) → c.next.new.self.count ≡ c.in-Some.i + 1
@@ -43,40 +44,40 @@ next_is c = omega (arith, c.in-Some.ensures.steps.1, c.in-Some.ensures.steps.2)
 pub loop-i-init : goal.loop-i-init
 loop-i-init c =
     rw (c.enumerate-rest.ensures.source, c.enumerate-rest.ensures.count)
-    (record { within = omega arith; rest = c.iter.ensures.rest; flowing = record { passed = below_none _; arrived = arrived_start 64 _ _ } })
+    (record { within = omega arith; rest = c.iter.ensures.rest ∙ c.units-units.ensures.units; flowing = record { passed = below_none _; arrived = arrived_start 64 _ _ } })
 
 -- What the loop compares at unit i: its flow is the one less the other.
 reached : (c : After-loss-lost)
-    → Less (flow (units_of c.args.units.now) c.in-Some.i) (get_or c.loop-i.arrived c.in-Some.i 0 + c.gain.result) c.loss-lost.result
+    → Less (flow (units_of c.args.self.now) c.in-Some.i) (get_or c.loop-i.arrived c.in-Some.i 0 + c.gain.result) c.loss-lost.result
 reached c =
     let t = taken (goal.at.After-loss-lost c).In-Some in
     let f = flowing (goal.at.After-loss-lost c).In-Some in
-    rw (f.arrived.each c.in-Some.i (omega (arith, t.inside, c.requires.few)), c.gain.ensures, c.loss-lost.ensures, t.unit)
-    (flow_reached (units_of c.args.units.now) c.in-Some.i f.passed)
+    rw (f.arrived.each c.in-Some.i (omega (arith, t.inside, (ready_at c.units-units.ensures.units c.units-units.ensures.ready).few)), c.gain.ensures, c.loss-lost.ensures, t.unit)
+    (flow_reached (units_of c.args.self.now) c.in-Some.i f.passed)
 
 pub overflow_add-gained : goal.overflow_add-gained
 overflow_add-gained c =
-    let v = units_of c.args.units.now in
+    let v = units_of c.args.self.now in
     let t = taken (goal.at.overflow_add-gained c).In-Some in
     let f = flowing (goal.at.overflow_add-gained c).In-Some in
     let own = rw t.unit at c.gain.ensures in
     omega (
       arith,
       own,
-      f.arrived.each c.in-Some.i (omega (arith, t.inside, c.requires.few)),
-      total_small v c.requires c.in-Some.i t.inside,
-      c.requires.gains c.in-Some.i t.inside,
+      f.arrived.each c.in-Some.i (omega (arith, t.inside, (ready_at c.units-units.ensures.units c.units-units.ensures.ready).few)),
+      total_small v (ready_at c.units-units.ensures.units c.units-units.ensures.ready) c.in-Some.i t.inside,
+      (ready_at c.units-units.ensures.units c.units-units.ensures.ready).gains c.in-Some.i t.inside,
     )
 
 -- The unit's contribution goes on to its downstream unit.
 contributed : (c : After-loss-lost)
-    → get_or c.loop-i.arrived c.in-Some.i 0 + c.gain.result - c.loss-lost.result ≡ contribution (units_of c.args.units.now) c.in-Some.i
+    → get_or c.loop-i.arrived c.in-Some.i 0 + c.gain.result - c.loss-lost.result ≡ contribution (units_of c.args.self.now) c.in-Some.i
 contributed c = sym (less_monus (reached c))
 
-onward : (c : In-Some-checked_sub) → Onward (units_of c.args.units.now) c.in-Some.i c.in-Some-checked_sub.k
+onward : (c : In-Some-checked_sub) → Onward (units_of c.args.self.now) c.in-Some.i c.in-Some-checked_sub.k
 onward c =
     let t = taken (goal.at.In-Some-checked_sub c).In-Some in
-    onward_of (units_of c.args.units.now) c.requires c.in-Some.i c.in-Some-checked_sub.k t.inside
+    onward_of (units_of c.args.self.now) (ready_at c.units-units.ensures.units c.units-units.ensures.ready) c.in-Some.i c.in-Some-checked_sub.k t.inside
     (ap (λ (u : Unit). u.downstream) (sym t.unit) ∙ omega (arith, c.from.ensures, c.in-Some-checked_sub.ensures))
 
 pub overflow_add-arrived : goal.overflow_add-arrived
@@ -85,18 +86,18 @@ overflow_add-arrived c =
     let f = flowing (goal.at.overflow_add-arrived c).In-Some in
     omega (
       arith,
-      arrived_within (units_of c.args.units.now) c.requires c.in-Some.i t.inside c.in-Some-checked_sub.k c.loop-i.arrived _ (onward c)
+      arrived_within (units_of c.args.self.now) (ready_at c.units-units.ensures.units c.units-units.ensures.ready) c.in-Some.i t.inside c.in-Some-checked_sub.k c.loop-i.arrived _ (onward c)
           (contributed (goal.at.overflow_add-arrived c).After-loss-lost) f.arrived,
     )
 
 -- The invariant after a unit with no negative flow, which contributes to the unit below it, or is an outlet.
 passed : (c : After-loss-lost) → c.loss-lost.result ≤ get_or c.loop-i.arrived c.in-Some.i 0 + c.gain.result
-    → (k : ℕ) → k < c.in-Some.i + 1 → non_neg (flow (units_of c.args.units.now) k) ≡ true
+    → (k : ℕ) → k < c.in-Some.i + 1 → non_neg (flow (units_of c.args.self.now) k) ≡ true
 passed c h = below_more _ _ (flowing (goal.at.After-loss-lost c).In-Some).passed (less_non_neg (reached c) h)
 
 pub loop-i-preserved-in-Some-checked_sub : goal.loop-i-preserved-in-Some-checked_sub
 loop-i-preserved-in-Some-checked_sub c =
-    let v = units_of c.args.units.now in
+    let v = units_of c.args.self.now in
     let t = taken (goal.at.loop-i-preserved-in-Some-checked_sub c).In-Some in
     let f = flowing (goal.at.loop-i-preserved-in-Some-checked_sub c).In-Some in
     let b = onward c in
@@ -110,13 +111,13 @@ loop-i-preserved-in-Some-checked_sub c =
             arrived =
                 rw (add-one c.in-Some.i)
                 (arrived_on 64 (downstream v) (contribution v) c.in-Some.i c.in-Some-checked_sub.k c.loop-i.arrived b.next
-                (omega (arith, b.within, c.requires.few)) f.arrived);
+                (omega (arith, b.within, (ready_at c.units-units.ensures.units c.units-units.ensures.ready).few)) f.arrived);
           };
     })
 
 pub loop-i-preserved : goal.loop-i-preserved
 loop-i-preserved c =
-    let v = units_of c.args.units.now in
+    let v = units_of c.args.self.now in
     let t = taken (goal.at.loop-i-preserved c).In-Some in
     let f = flowing (goal.at.loop-i-preserved c).In-Some in
     let out : downstream v c.in-Some.i ≡ 0 =
@@ -134,7 +135,7 @@ loop-i-preserved c =
 
 pub returns-in_default : goal.returns-in_default
 returns-in_default c =
-    let us = c.args.units.now in
+    let us = c.args.self.now in
     let all : c.loop-i.rest.count ≡ length us =
     omega (
       arith,
@@ -149,5 +150,5 @@ pub returns-then-gained-lost : goal.returns-then-gained-lost
 returns-then-gained-lost c =
     let t = taken (goal.at.returns-then-gained-lost c).In-Some in
     let f = flowing (goal.at.returns-then-gained-lost c).In-Some in
-    sym (first_at _ (length c.args.units.now) c.in-Some.i t.inside (λ k h. ap not (f.passed k h))
+    sym (first_at _ (length c.args.self.now) c.in-Some.i t.inside (λ k h. ap not (f.passed k h))
     (ap not (less_negative (reached (goal.at.returns-then-gained-lost c).After-loss-lost) c.if-gained-lost.true)))

@@ -1,4 +1,4 @@
--- `first_negative` meets its contract. The loop's invariant: the iterator has the units from index `count` on, none of those before it has
+-- `Tree::first_negative` meets its contract. The loop's invariant: the iterator has the units from index `count` on, none of those before it has
 -- a negative flow, and `arrived` holds what those contributed to each unit. Assumes nothing.
 use Rattle.std.proofs.Common.{ℕ, ◌≡◌, ◌≤◌, ◌<◌, true, List, length, drop}
 use Rattle.std.specs.Slice.Iter.{iter_rest}
@@ -8,7 +8,7 @@ use Rattle.model.specs.View.{View}
 use Rattle.river.specs.Units.{units_of}
 use Rattle.river.specs.Flow.{downstream, flow}
 use Rattle.river.specs.Reserve.{contribution}
-use Rattle.river.proofs.search.first_negative.Given as goal
+use Rattle.river.proofs.tree.Tree.first_negative.Given as goal
 
 pub record Flowing (v : View) (i : ℕ) (w : List ℕ) : Type 0 where
   pub passed : (k : ℕ) → k < i → non_neg (flow v k) ≡ true
@@ -17,9 +17,9 @@ pub record Flowing (v : View) (i : ℕ) (w : List ℕ) : Type 0 where
 abbrev pub invariant-loop-i : goal.invariant-loop-i
 invariant-loop-i l =
     record {
-      within : l.rest.count ≤ length l.units;
-      rest : iter_rest l.rest.iter ≡ drop l.rest.count l.units;
-      flowing : Flowing (units_of l.units) l.rest.count l.arrived;
+      within : l.rest.count ≤ length l.self;
+      rest : iter_rest l.rest.iter ≡ drop l.rest.count l.self;
+      flowing : Flowing (units_of l.self) l.rest.count l.arrived;
     }
 
 abbrev pub decreases-loop-i : goal.decreases-loop-i
