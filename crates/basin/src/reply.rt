@@ -28,7 +28,7 @@ fn no_aquifers() -> [AquiferFigures; Balance::AQUIFERS]
 pub fn figures(b: Balance) -> Figures
     ensures { result ≡ replies.figures_reply (view_of b) }
 {
-    let Some(amounts) = tested(b) else {
+    let Some(amounts) = tested(&b) else {
         return Figures {
             answer: Err(Refusal::Unsound),
             units: no_units(),

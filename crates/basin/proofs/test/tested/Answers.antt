@@ -1,8 +1,9 @@
 -- `basin::tested` meets its contract. Assumes nothing.
+use Prim.Native.Nat.{◌≤◌}
 use mathlib.Core.Path.{◌≡◌, refl, sym, ◌∙◌}
 use native.Mathlib.Omega.{arith}
 use mathlib.Core.Bool.{Bool, true, ◌&&◌}
-use lib.ListN.{take}
+use lib.ListN.{length, take, length-take}
 use Rattle.model.specs.View.{View, view_of}
 use Rattle.river.specs.Flow.{Ready}
 use Rattle.river.specs.Units.{units_of}
@@ -21,7 +22,7 @@ returns-then-not-counts_sound c = record {
 
 -- The view of the balance, and that the counts are within their limits.
 abbrev counted : Else-not-counts_sound → View
-counted c = view_of c.args.b
+counted c = view_of c.args.b.now
 
 counts-hold : (c : Else-not-counts_sound) → sound_counts (counted c) ≡ true
 counts-hold c = call_holds c.counts_sound.ensures c.if-not-counts_sound.false
@@ -34,9 +35,7 @@ past-counts : (c : Else-not-counts_sound) (r x : Bool) → r ≡ x → r ≡ (so
 past-counts c r x e = go_call _ _ x r c.counts_sound.ensures c.if-not-counts_sound.false e
 
 pub entries_hold-requires : goal.entries_hold-requires
-entries_hold-requires c =
-    let f = few (goal.at.entries_hold-requires c).Else-not-counts_sound in
-    (f.units, f.aquifers, f.given)
+entries_hold-requires c = counts-hold (goal.at.entries_hold-requires c).Else-not-counts_sound
 
 pub returns-then-not-entries_hold : goal.returns-then-not-entries_hold
 returns-then-not-entries_hold c = record {
@@ -56,14 +55,15 @@ ready : (c : Else-not-entries_hold) → Ready (held c)
 ready c = entries_ready (held c) (few (goal.at.Else-not-entries_hold c).Else-not-counts_sound) (entries-held c)
 
 -- The counted units are those of the balance.
-same : (c : Else-not-entries_hold) → SameUnits (held c) (units_of (take c.args.b.unit_count c.args.b.units))
-same c =
-    counted_units (held c) c.args.b.units (omega (arith, (few (goal.at.Else-not-entries_hold c).Else-not-counts_sound).units)) (λ k h. refl)
+same : (c : Else-not-entries_hold) → c.args.b.now.unit_count ≤ length c.args.b.now.units
+    → SameUnits (held c) (units_of (take c.args.b.now.unit_count c.args.b.now.units))
+same c enough = counted_units (held c) c.args.b.now.units enough (λ k h. refl)
 
 pub flow-requires : goal.flow-requires
 flow-requires c =
     let here = (goal.at.flow-requires c).Else-not-entries_hold in
-    record { ready = ready_same _ _ (same here) (ready here); clear = c.none-amounts.ensures }
+    let f = few (goal.at.flow-requires c).Else-not-counts_sound in
+    record { ready = ready_same _ _ (same here (omega (arith, f.units, length-take c.args.b.now.unit_count c.args.b.now.units))) (ready here); clear = c.none-amounts.ensures }
 
 pub flowing-requires : goal.flowing-requires
 flowing-requires c = (ready (goal.at.flowing-requires c).Else-not-entries_hold).few
@@ -72,10 +72,11 @@ flowing-requires c = (ready (goal.at.flowing-requires c).Else-not-entries_hold).
 tested-flows : (c : After-flowing) → c.flowing.result ≡ sound (held (goal.at.After-flowing c).Else-not-entries_hold)
 tested-flows c =
     let here = (goal.at.After-flowing c).Else-not-entries_hold in
+    let f = few (goal.at.After-flowing c).Else-not-counts_sound in
     in_order_lem _ _
     (past-counts (goal.at.After-flowing c).Else-not-counts_sound _ _
     (go_call _ _ _ _ c.entries_hold.ensures c.if-not-entries_hold.false
-    (c.flowing.ensures ∙ none_negative _ _ (same here) _ _ c.flow.ensures.gained c.flow.ensures.lost)))
+    (c.flowing.ensures ∙ none_negative _ _ (same here (omega (arith, f.units, length-take c.args.b.now.unit_count c.args.b.now.units))) _ _ c.flow.ensures.gained c.flow.ensures.lost)))
 
 pub returns-then-not-flowing : goal.returns-then-not-flowing
 returns-then-not-flowing c =
