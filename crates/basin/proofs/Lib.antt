@@ -1,3 +1,4 @@
+pub mod Everywhere
 pub mod Chains
 pub mod Ranges
 pub mod Soundness

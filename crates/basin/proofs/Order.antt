@@ -4,15 +4,17 @@ use mathlib.Core.Path.{◌≡◌, refl, sym, ap, ◌∙◌}
 use mathlib.Core.Bool.{Bool, true, false, ◌&&◌}
 use mathlib.Core.List.{List}
 use lib.Dec.{leb}
+use lib.ListN.{length, get_or, take}
+use lib.Seq.{get_or-take, length-take-le}
 use lib.Signed.{non_neg}
 use native.Mathlib.Omega.{arith}
 use borrow.Author.Tests.{leb-true}
 use Rattle.laws.specs.Sum.{every}
 use Rattle.laws.proofs.Every.{both, every_each, each_every, every_same}
-use Rattle.model.specs.declared.Unit.{Unit}
-use Rattle.model.specs.declared.Aquifer.{Aquifer}
+use Rattle.model.specs.declared.Balance.{Balance}
 use Rattle.model.specs.declared.Place.{Place}
-use Rattle.model.specs.View.{View}
+use Rattle.model.specs.Fresh.{empty_unit, empty_aquifer}
+use Rattle.model.specs.View.{View, view_of}
 use Rattle.river.specs.Flow.{Gathered, Ready}
 use Rattle.river.proofs.Units.{SameUnits, flow_same}
 use Rattle.river.proofs.Flows.{flow_parts}
@@ -69,18 +71,34 @@ module _ (n m : ℕ) (p : Place) where
   pub cancelled : p.in_force ≡ false → Sound.sound_place n m p ≡ true
   cancelled f = rw f
 
--- That a unit or an aquifer holds, as the code tests it with the sums of the titles.
-module _ (us : List Unit) (n : ℕ) (ws : List Aquifer) (m : ℕ) (ts : List Place) (given : ℕ) (r : Sums) (t : TitledAll ts given r) where
-  pub units_hold_lem : n ≤ 64 → every n (Sound.unit_holds n us r.extraction r.exports r.imports r.returns)
-      ≡ Sound.units_hold (Sound.parts_view us n ws m ts given)
-  units_hold_lem few =
-      every_both n _ _ _
+-- That the counted units and aquifers of a balance hold, as the code tests it with the sums of the titles.
+module _ (b : Balance) (r : Sums) (t : TitledAll b.titles b.given r) where
+  pub units_hold_lem : b.unit_count ≤ 64 → b.unit_count ≤ length b.units
+      → every (length (take b.unit_count b.units)) (Sound.unit_holds (take b.unit_count b.units) r) ≡ Sound.units_hold (view_of b)
+  units_hold_lem few enough =
+      let n = b.unit_count in
+      let us = take n b.units in
+      let long : length us ≡ n = length-take-le n b.units enough in
+      ap (λ (m : ℕ). every m (Sound.unit_holds us r)) long
+      ∙ every_both n _ _ _
       (λ k h.
       let g : k < 64 = omega arith in
-      rw ((t Extraction).sums k g, (t Exports).sums k g, (t Imports).sums k g, (t Returns).sums k g))
+      let unit : get_or us k empty_unit ≡ get_or b.units k empty_unit = get_or-take n b.units k empty_unit h in
+      λ i. Sound.sound_unit (long i) k (unit i)
+      && Sound.covers ((t Extraction).sums k g i) ((t Exports).sums k g i) ((t Imports).sums k g i) ((t Returns).sums k g i) (unit i))
 
-  pub aquifers_hold_lem : m ≤ 32 → every m (Sound.aquifer_holds ws r.wells) ≡ Sound.aquifers_hold (Sound.parts_view us n ws m ts given)
-  aquifers_hold_lem few = every_both m _ _ _ (λ k h. rw ((t WellExtraction).sums k (omega arith)))
+  pub aquifers_hold_lem : b.aquifer_count ≤ 32 → b.aquifer_count ≤ length b.aquifers
+      → every (length (take b.aquifer_count b.aquifers)) (Sound.aquifer_holds (take b.aquifer_count b.aquifers) r)
+      ≡ Sound.aquifers_hold (view_of b)
+  aquifers_hold_lem few enough =
+      let m = b.aquifer_count in
+      let ws = take m b.aquifers in
+      ap (λ (n : ℕ). every n (Sound.aquifer_holds ws r)) (length-take-le m b.aquifers enough)
+      ∙ every_both m _ _ _
+      (λ k h.
+      let g : k < 64 = omega arith in
+      let aquifer : get_or ws k empty_aquifer ≡ get_or b.aquifers k empty_aquifer = get_or-take m b.aquifers k empty_aquifer h in
+      λ i. Sound.sound_aquifer (aquifer i) && leb ((t WellExtraction).sums k g i) (aquifer i).extraction)
 
 -- No flow is negative where no more is lost than gained at any unit.
 pub none_negative : (v w : View) → SameUnits v w → (gained lost : List ℕ) → Gathered w false gained → Gathered w true lost

@@ -1,6 +1,6 @@
 -- The test for 0 (document 01, "What each operation refuses"; document 02 [2]): a call gives 0 if the balance handed to it is not sound.
 -- Assumes nothing.
-use Rattle.std.specs.Prelude.{ℕ, ◌+◌, Bool, not, ◌&&◌, ◌||◌, List, [], ◌∷◌, leb, ltb, get_or}
+use Rattle.std.specs.Prelude.{ℕ, ◌+◌, Bool, not, ◌&&◌, ◌||◌, List, [], ◌∷◌, leb, ltb, length, get_or}
 use Rattle.std.specs.Int.Signed.{non_neg}
 use Rattle.laws.specs.Sum.{every}
 use Rattle.model.specs.declared.Unit.{Unit}
@@ -15,6 +15,7 @@ use Rattle.model.specs.Ranges.{is_onward, are_terms, aquifer_within}
 use Rattle.river.specs.Flow.{flow}
 use Rattle.figures.specs.Recharge.{is_recharged}
 use Rattle.titles.specs.Adds.{titled}
+use Rattle.titles.specs.declared.Sums.{Sums}
 use Rattle.titles.specs.declared.Slot.TheVariants.{Extraction, Exports, Imports, Returns, WellExtraction}
 -- A term runs from 0 to 10,000,000, a storage change from −10,000,000 to 10,000,000, and only an outlet has a commitment.
 pub use Rattle.model.specs.Ranges.{is_term, is_storage, is_committed}
@@ -70,15 +71,19 @@ covered_unit v j =
 abbrev pub covered_aquifer : View → ℕ → Bool
 covered_aquifer v j = leb (titled v v.given WellExtraction j) (v.aquifer j).extraction
 
--- The unit or the aquifer at index j is sound, and its entries cover what titles add together to them: a list of sums for each entry.
-abbrev pub unit_holds : ℕ → List Unit → List ℕ → List ℕ → List ℕ → List ℕ → ℕ → Bool
-unit_holds count units extraction exports imports returns j =
-    sound_unit count j (get_or units j empty_unit)
-    && covers (get_or extraction j 0) (get_or exports j 0) (get_or imports j 0) (get_or returns j 0) (get_or units j empty_unit)
+-- The entries of a unit cover the sums at index j.
+abbrev pub covers_sums : Sums → ℕ → Unit → Bool
+covers_sums sums j u =
+    covers (get_or sums.extraction j 0) (get_or sums.exports j 0) (get_or sums.imports j 0) (get_or sums.returns j 0) u
 
-abbrev pub aquifer_holds : List Aquifer → List ℕ → ℕ → Bool
-aquifer_holds aquifers extraction j =
-    sound_aquifer (get_or aquifers j empty_aquifer) && leb (get_or extraction j 0) (get_or aquifers j empty_aquifer).extraction
+-- The unit or the aquifer at index j is sound, and its entries cover what titles add together to them.
+abbrev pub unit_holds : List Unit → Sums → ℕ → Bool
+unit_holds units sums j =
+    sound_unit (length units) j (get_or units j empty_unit) && covers_sums sums j (get_or units j empty_unit)
+
+abbrev pub aquifer_holds : List Aquifer → Sums → ℕ → Bool
+aquifer_holds aquifers sums j =
+    sound_aquifer (get_or aquifers j empty_aquifer) && leb (get_or sums.wells j 0) (get_or aquifers j empty_aquifer).extraction
 
 -- The counts are within their limits.
 abbrev pub sound_counts : View → Bool

@@ -1,64 +1,52 @@
 // The entries of units and aquifers against what titles add together to them.
-ghost use Rattle.std.specs.Prelude.{◌≡◌, ◌≤◌};
+ghost use Rattle.std.specs.Prelude.{◌≡◌, ◌≤◌, ◌<◌, length};
 ghost use Rattle.laws.specs.Sum.{every};
 ghost use Rattle.model.specs.Limits.{unit_limit, aquifer_limit};
 ghost use Rattle.basin.specs.Sound as sounds;
 
 use crate::entries::{aquifer_sound, unit_sound};
-use model::{Aquifer, Balance, Unit};
+use model::{Aquifer, Unit};
+use titles::Sums;
 
-// The titles of a unit do not together exceed the entries that they went into.
-fn unit_covered(u: Unit, extraction: u64, exports: u64, imports: u64, returns: u64) -> bool
-    ensures { result ≡ sounds.covers extraction exports imports returns u }
+// The titles of the unit at an index do not together exceed the entries that they went into.
+fn unit_covered(u: &Unit, sums: &Sums, j: usize) -> bool
+    requires { j < unit_limit }
+    ensures { result ≡ sounds.covers_sums sums.now j u.now }
 {
-    extraction <= u64::from(u.extraction)
-        && exports <= u64::from(u.exports)
-        && imports <= u64::from(u.imports)
-        && returns <= u64::from(u.returns)
+    sums.extraction[j] <= u64::from(u.extraction)
+        && sums.exports[j] <= u64::from(u.exports)
+        && sums.imports[j] <= u64::from(u.imports)
+        && sums.returns[j] <= u64::from(u.returns)
+}
+
+// The unit at an index is sound, and no entry of it is exceeded by its titles.
+fn unit_holds(units: &[Unit], sums: &Sums, j: usize) -> bool
+    requires { (j < length units.now) × (length units.now ≤ unit_limit) }
+    ensures { result ≡ sounds.unit_holds units.now sums.now j }
+{
+    unit_sound(units[j], j, units.len()) && unit_covered(&units[j], sums, j)
+}
+
+// The aquifer at an index is sound, and its extraction is not exceeded by its titles.
+fn aquifer_holds(aquifers: &[Aquifer], sums: &Sums, j: usize) -> bool
+    requires { (j < length aquifers.now) × (length aquifers.now ≤ aquifer_limit) }
+    ensures { result ≡ sounds.aquifer_holds aquifers.now sums.now j }
+{
+    aquifer_sound(aquifers[j]) && sums.wells[j] <= u64::from(aquifers[j].extraction)
 }
 
 // Every unit is sound, and no entry of it is exceeded by its titles.
-pub fn units_hold<'a>(
-    units: [Unit; Balance::UNITS],
-    n: usize,
-    extraction: &'a [u64; Balance::UNITS],
-    exports: &'a [u64; Balance::UNITS],
-    imports: &'a [u64; Balance::UNITS],
-    returns: &'a [u64; Balance::UNITS],
-) -> bool
-    requires { n ≤ unit_limit }
-    ensures { result ≡ every n
-        (sounds.unit_holds n units extraction.now exports.now imports.now returns.now) }
+pub fn units_hold(units: &[Unit], sums: &Sums) -> bool
+    requires { length units.now ≤ unit_limit }
+    ensures { result ≡ every (length units.now) (sounds.unit_holds units.now sums.now) }
 {
-    for i in 0..n {
-        let u = units[i];
-        if !unit_sound(u, i, n) {
-            return false;
-        }
-        if !unit_covered(u, extraction[i], exports[i], imports[i], returns[i]) {
-            return false;
-        }
-    }
-    true
+    (0..units.len()).all(|j| unit_holds(units, sums, j))
 }
 
 // Every aquifer is sound, and its extraction is not exceeded by its titles.
-pub fn aquifers_hold(
-    aquifers: [Aquifer; Balance::AQUIFERS],
-    n: usize,
-    extraction: &[u64; Balance::UNITS],
-) -> bool
-    requires { n ≤ aquifer_limit }
-    ensures { result ≡ every n (sounds.aquifer_holds aquifers extraction.now) }
+pub fn aquifers_hold(aquifers: &[Aquifer], sums: &Sums) -> bool
+    requires { length aquifers.now ≤ aquifer_limit }
+    ensures { result ≡ every (length aquifers.now) (sounds.aquifer_holds aquifers.now sums.now) }
 {
-    for i in 0..n {
-        let a = aquifers[i];
-        if !aquifer_sound(a) {
-            return false;
-        }
-        if extraction[i] > u64::from(a.extraction) {
-            return false;
-        }
-    }
-    true
+    (0..aquifers.len()).all(|j| aquifer_holds(aquifers, sums, j))
 }

@@ -1,13 +1,13 @@
 // The test for 0.
-ghost use Rattle.std.specs.Prelude.{◌≡◌, ◌&&◌, ◌≤◌, leb, take, is_some, IfSome};
+ghost use Rattle.std.specs.Prelude.{◌≡◌, ◌&&◌, ◌≤◌, leb, take, true, is_some, IfSome};
 ghost use Rattle.model.specs.View.{view_of};
 ghost use Rattle.model.specs.Limits.{unit_limit, aquifer_limit, title_limit};
 ghost use Rattle.basin.specs.Sound as sounds;
 
 use crate::cover::{aquifers_hold, units_hold};
 use crate::places::title_sound;
-use model::{Aquifer, Balance, Place, Unit};
-use river::{Routed, Tree};
+use model::{Balance, Place};
+use river::{Amounts, Routed, Tree};
 use titles::Sums;
 
 // The counts are within their limits.
@@ -19,51 +19,29 @@ fn counts_sound(units: usize, aquifers: usize, given: usize) -> bool
 
 // Every title in force is sound; every aquifer and every unit is sound, and none of its entries is exceeded by its titles. One walk over
 // the titles tests each and adds it up.
-fn entries_hold(
-    units: [Unit; Balance::UNITS],
-    n: usize,
-    aquifers: [Aquifer; Balance::AQUIFERS],
-    m: usize,
-    titles: [Place; Balance::TITLES],
-    given: usize,
-) -> bool
-    requires { (n ≤ unit_limit) × (m ≤ aquifer_limit) × (given ≤ title_limit) }
-    ensures { result ≡ sounds.entries_hold (sounds.parts_view units n aquifers m titles given) }
+fn entries_hold(b: &Balance) -> bool
+    requires { sounds.sound_counts (view_of b.now) ≡ true }
+    ensures { result ≡ sounds.entries_hold (view_of b.now) }
 {
     let mut sums = Sums::none();
-    for k in 0..given {
-        let Place { title, in_force } = titles[k];
+    for &Place { title, in_force } in &b.titles[..b.given] {
         if in_force {
-            if !title_sound(title, n, m) {
+            if !title_sound(title, b.unit_count, b.aquifer_count) {
                 return false;
             }
             sums.add(title);
         }
     }
-    if !aquifers_hold(aquifers, m, &sums.wells) {
-        return false;
-    }
-    units_hold(
-        units,
-        n,
-        &sums.extraction,
-        &sums.exports,
-        &sums.imports,
-        &sums.returns,
-    )
+    aquifers_hold(&b.aquifers[..b.aquifer_count], &sums)
+        && units_hold(&b.units[..b.unit_count], &sums)
 }
 
-// No more is lost than gained at any unit.
-fn flowing<'a>(n: usize, gained: &'a [u64; Balance::UNITS], lost: &'a [u64; Balance::UNITS]) -> bool
+// No more is lost than gained at any of so many units.
+fn flowing(amounts: &Amounts, n: usize) -> bool
     requires { n ≤ unit_limit }
-    ensures { result ≡ sounds.balanced n gained.now lost.now }
+    ensures { result ≡ sounds.balanced n amounts.now.gained amounts.now.lost }
 {
-    for i in 0..n {
-        if gained[i] < lost[i] {
-            return false;
-        }
-    }
-    true
+    (0..n).all(|j| amounts.lost[j] <= amounts.gained[j])
 }
 
 // The test for 0: the tree of the units with its amounts, where the balance is sound.
@@ -72,20 +50,15 @@ pub fn tested(b: &Balance) -> Option<Routed<'_>>
     ensures units { IfSome result (λ units. units ≡ take b.now.unit_count b.now.units) }
 {
     let n = b.unit_count;
-    let m = b.aquifer_count;
-    let given = b.given;
-    if !counts_sound(n, m, given) {
+    if !counts_sound(n, b.aquifer_count, b.given) {
         return None;
     }
-    let titles = b.titles;
-    let aquifers = b.aquifers;
-    let units = b.units;
-    if !entries_hold(units, n, aquifers, m, titles, given) {
+    if !entries_hold(b) {
         return None;
     }
     let routed = Tree::new(&b.units[..n]).routed();
     let amounts = routed.amounts();
-    if !flowing(n, &amounts.gained, &amounts.lost) {
+    if !flowing(amounts, n) {
         return None;
     }
     Some(routed)

@@ -1,9 +1,9 @@
 -- `basin::tested` meets its contract. Assumes nothing.
+use Prim.Native.Nat.{◌≤◌}
 use mathlib.Core.Path.{◌≡◌, refl, sym, ◌∙◌}
 use native.Mathlib.Omega.{arith}
 use mathlib.Core.Bool.{Bool, true, ◌&&◌}
 use lib.ListN.{take, length, length-take}
-use Prim.Native.Nat.{◌≤◌}
 use Rattle.model.specs.View.{View, view_of}
 use Rattle.river.specs.Flow.{Ready}
 use Rattle.river.specs.Passes.{Flows}
@@ -36,9 +36,7 @@ past-counts : (c : Else-not-counts_sound) (r x : Bool) → r ≡ x → r ≡ (so
 past-counts c r x e = go_call _ _ x r c.counts_sound.ensures c.if-not-counts_sound.false e
 
 pub entries_hold-requires : goal.entries_hold-requires
-entries_hold-requires c =
-    let f = few (goal.at.entries_hold-requires c).Else-not-counts_sound in
-    (f.units, f.aquifers, f.given)
+entries_hold-requires c = counts-hold (goal.at.entries_hold-requires c).Else-not-counts_sound
 
 pub returns-then-not-entries_hold : goal.returns-then-not-entries_hold
 returns-then-not-entries_hold c = record {
@@ -60,13 +58,14 @@ ready c = entries_ready (held c) (few (goal.at.Else-not-entries_hold c).Else-not
 -- The counted units are those of the balance.
 same : (c : Else-not-entries_hold) → c.args.b.now.unit_count ≤ length c.args.b.now.units
     → SameUnits (held c) (units_of (take c.args.b.now.unit_count c.args.b.now.units))
-same c h = counted_units (held c) c.args.b.now.units h (λ k h. refl)
+same c enough = counted_units (held c) c.args.b.now.units enough (λ k h. refl)
 
 pub new-requires : goal.new-requires
 new-requires c =
     let here = (goal.at.new-requires c).Else-not-entries_hold in
+    let f = few (goal.at.new-requires c).Else-not-counts_sound in
     let b = c.args.b.now in
-    ready_same _ _ (same here (omega (arith, length-take b.unit_count b.units))) (ready here)
+    ready_same _ _ (same here (omega (arith, f.units, length-take b.unit_count b.units))) (ready here)
 
 -- The routed tree is that of the counted units, and its amounts are those of its units.
 counted-units : (c : After-flowing) → c.routed-routed.result ≡ take c.args.b.now.unit_count c.args.b.now.units
@@ -83,10 +82,11 @@ tested-flows : (c : After-flowing) → c.flowing.result ≡ sound (held (goal.at
 tested-flows c =
     let b = c.args.b.now in
     let here = (goal.at.After-flowing c).Else-not-entries_hold in
+    let f = few (goal.at.After-flowing c).Else-not-counts_sound in
     in_order_lem _ _
     (past-counts (goal.at.After-flowing c).Else-not-counts_sound _ _
     (go_call _ _ _ _ c.entries_hold.ensures c.if-not-entries_hold.false
-    (c.flowing.ensures ∙ none_negative _ _ (same here (omega (arith, length-take b.unit_count b.units))) _ _ (flows c).gained (flows c).lost)))
+    (c.flowing.ensures ∙ none_negative _ _ (same here (omega (arith, f.units, length-take b.unit_count b.units))) _ _ (flows c).gained (flows c).lost)))
 
 pub returns-then-not-flowing : goal.returns-then-not-flowing
 returns-then-not-flowing c =
