@@ -55,8 +55,7 @@ fn replies(
     let mut next = from;
     let mut page = Page::new(out);
     for count in 0..most {
-        let outcome;
-        match requests::record_at(s, next) {
+        let (outcome, to) = match requests::record_at(s, next) {
             RecordAt::End => return replayed(kept, balance, next, count, page.len(), false),
             RecordAt::Fails { refusal } => {
                 listing::refused_line(&mut page, refusal, next);
@@ -64,30 +63,29 @@ fn replies(
             }
             RecordAt::Calls { call, to } => {
                 let answer = decide(balance, sound, call);
-                outcome = listing::called(call, answer, balance.given);
+                let outcome = listing::called(call, answer, balance.given);
                 if let Ok(()) = answer {
                     balance = perform(balance, call);
                 }
-                next = to;
+                (outcome, to)
             }
             RecordAt::Keeps { to } => {
                 let name = requests::name_at(s, next + 2);
                 let answer = planning::keep_apart(&mut kept, balance, whole, name);
-                outcome = listing::answered(answer, Outcome::Kept);
-                next = to;
+                (listing::answered(answer, Outcome::Kept), to)
             }
             RecordAt::Returns { to } => {
                 let name = requests::name_at(s, next + 2);
                 let answer = planning::back_apart(&kept, &mut balance, whole, name);
-                outcome = listing::answered(answer, Outcome::Back);
-                next = to;
+                (listing::answered(answer, Outcome::Back), to)
             }
-        }
+        };
         CallLine {
             call: u64::from(first) + count as u64,
             outcome,
         }
         .put(&mut page);
+        next = to;
     }
     replayed(kept, balance, next, most, page.len(), true)
 }

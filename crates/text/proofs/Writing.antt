@@ -77,10 +77,6 @@ module _ {m : ℕ} {old : List ℕ} {at : ℕ} {s mid : List ℕ} {n : ℕ} (fir
   pub counts : (n ≤ length mid) × (n ≡ length (take n mid))
   counts = let inside : n ≤ length mid = omega (arith, kept_length) in (inside, sym (length-take-le n mid inside))
 
-  -- and then no text
-  pub still : Written 0 mid n [] mid n
-  still = nothing mid n (omega (arith, kept_length))
-
   -- one text and then another are the two together
   pub then : {k : ℕ} {t new : List ℕ} {r : ℕ} → Written k mid n t new r → Written (m + k) old at (s ++ t) new r
   then second = record {

@@ -70,14 +70,14 @@ module _ (c : After-put) where
   abbrev cur : State
   cur = with_current c.loop-count.kept c.loop-count.balance
 
-  on : (r : Request) (to : ℕ) → request_at c.args.s.now c.loop-count.next ≡ asks r to → (o : Outcome) → c.match-record_at.outcome ≡ o
+  on : (r : Request) (to : ℕ) → request_at c.args.s.now c.loop-count.next ≡ asks r to → (o : Outcome) → c.match-record_at.outcome.0 ≡ o
       → outcome_line (c.args.first + c.loop-count.count) o ≡ reply_text (c.args.first + c.loop-count.count) cur r
       → (next : State) → next ≡ state_after cur r
       → Going c.args.s.now c.args.from c.args.first c.args.most c.args.state c.new-page.result c.put.new.page next to (c.loop-count.count + 1)
   on r to e o q line next f =
       let loop = c.loop-count in
       let text =
-      ap (λ (n : ℕ). outcome_line (n + loop.count) c.match-record_at.outcome) c.from.ensures
+      ap (λ (n : ℕ). outcome_line (n + loop.count) c.match-record_at.outcome.0) c.from.ensures
       ∙ ap (outcome_line (c.args.first + loop.count)) q
       ∙ line in
       going_on c.args.s.now c.args.from c.args.first c.args.most c.args.state cur loop.next loop.count loop.invariant.going c.loop-count-test.true r to e next
@@ -95,18 +95,18 @@ loop-count-preserved c =
           let call = w.in-Calls.call in
           let line = called_line k loop.balance call _ w.decide-answer.ensures in
           let next = ap (with_current loop.kept) w.perform-balance.ensures.value in
-          rw (w.kept-is, w.balance-is, w.next-is)
+          rw (w.kept-is, w.balance-is, w.outcome-is)
           (record {
-            going = on c (ask call) _ (asking _ w.in-Calls.ensures) _ (w.outcome-is ∙ w.called-outcome.ensures) line _ next;
+            going = on c (ask call) _ (asking _ w.in-Calls.ensures) _ (ap (λ (p : Outcome × ℕ). p.0) w.outcome-is ∙ w.called-outcome.ensures) line _ next;
             tested = tested_call _ _ cur tested _ call next w.perform-balance.ensures.b_value;
           })
       | in-Calls+in_default w ↦
           let call = w.in-Calls.call in
           let line = called_line k loop.balance call _ w.decide-answer.ensures in
           let next = refused_state cur call _ _ w.decide-answer.ensures w.in_default.is in
-          rw (w.kept-is, w.balance-is, w.next-is)
+          rw (w.kept-is, w.balance-is, w.outcome-is)
           (record {
-            going = on c (ask call) _ (asking _ w.in-Calls.ensures) _ (w.outcome-is ∙ w.called-outcome.ensures) line _ next;
+            going = on c (ask call) _ (asking _ w.in-Calls.ensures) _ (ap (λ (p : Outcome × ℕ). p.0) w.outcome-is ∙ w.called-outcome.ensures) line _ next;
             tested = tested;
           })
       | in-Keeps w ↦
@@ -114,9 +114,9 @@ loop-count-preserved c =
           let kept = w.keep_apart-answer.ensures in
           let request = asking _ w.in-Keeps.ensures ∙ ap (λ (n : Name). asks (keep n) w.in-Keeps.to) (sym w.name_at-name.ensures) in
           let line = kept_line k w.keep_apart-answer.result ∙ ap (kept_text k) kept.answer in
-          rw (w.kept-is, w.balance-is, w.next-is)
+          rw (w.kept-is, w.balance-is, w.outcome-is)
           (record {
-            going = on c (keep name) _ request _ (w.outcome-is ∙ w.answered-outcome.ensures) line _ kept.state;
+            going = on c (keep name) _ request _ (ap (λ (p : Outcome × ℕ). p.0) w.outcome-is ∙ w.answered.ensures) line _ kept.state;
             tested = tested_keep _ _ cur tested _ name kept.state;
           })
       | in-Returns w ↦
@@ -124,9 +124,9 @@ loop-count-preserved c =
           let back_to = w.back_apart-answer.ensures in
           let request = asking _ w.in-Returns.ensures ∙ ap (λ (n : Name). asks (back n) w.in-Returns.to) (sym w.name_at-name-in-Returns.ensures) in
           let line = back_line k w.back_apart-answer.result ∙ ap (back_text k) back_to.answer in
-          rw (w.kept-is, w.balance-is, w.next-is)
+          rw (w.kept-is, w.balance-is, w.outcome-is)
           (record {
-            going = on c (back name) _ request _ (w.outcome-is ∙ w.answered-outcome-in-Returns.ensures) line _ back_to.state;
+            going = on c (back name) _ request _ (ap (λ (p : Outcome × ℕ). p.0) w.outcome-is ∙ w.answered-in-Returns.ensures) line _ back_to.state;
             tested = tested_back _ _ cur tested _ name back_to.state;
           })
     ]
