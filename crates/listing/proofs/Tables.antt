@@ -1,22 +1,20 @@
 -- The table of a balance, from the reply of its figures. Assumes nothing.
 use Rattle.std.specs.Prelude.{Ok, Err}
-use Prim.Native.Nat.{ℕ, zero, suc, ◌≤◌, ◌<◌}
-use mathlib.Core.Path.{◌≡◌, refl, sym, ap, ap₂, ◌∙◌}
+use Prim.Native.Nat.{ℕ, ◌≤◌, ◌<◌}
+use mathlib.Core.Path.{◌≡◌, sym, ap, ◌∙◌}
 use mathlib.Core.Bool.{Bool, true, false, cond}
 use mathlib.Core.List.{List, [], ◌++◌}
-use lib.ListN.{length, get_or}
+use lib.ListN.{length}
 use native.Mathlib.Omega.{arith}
 use borrow.Author.Tests.{lt-ltb, le-ltb}
 use Rattle.laws.proofs.Cases.{by_bool}
-use Rattle.laws.proofs.Arrays.{get_or_table}
 use Rattle.model.specs.declared.Refusal.{Refusal}
 use Rattle.model.specs.declared.Refusal.TheVariants.{Unsound}
 use Rattle.model.specs.Answers.{Answer, number}
 use Rattle.model.specs.View.{View}
-use Rattle.figures.specs.declared.UnitFigures.{UnitFigures}
-use Rattle.figures.specs.declared.AquiferFigures.{AquiferFigures}
-use Rattle.figures.specs.Figures.{unit_figures, no_unit_figures, all_unit_figures, aquifer_figures, no_aquifer_figures, all_aquifer_figures}
+use Rattle.figures.specs.Figures.{unit_figures, all_unit_figures, aquifer_figures, all_aquifer_figures}
 use Rattle.basin.specs.Sound.{sound}
+use Rattle.basin.specs.declared.Figures.{Figures}
 use Rattle.basin.specs.Figures.{figures_reply}
 use Rattle.basin.proofs.Soundness.{soundness}
 use Rattle.book.specs.Reading.{opened}
@@ -30,12 +28,6 @@ figures_sound v e = by_bool (sound v) (λ q. q) (λ q. let z : Err Unsound ≡ O
 pub refused_unsound : (v : View) (n : Refusal) → (figures_reply v).answer ≡ Err n → sound v ≡ false
 refused_unsound v n e = by_bool (sound v) (λ q. let z : (Ok tt) ≡ Err n = rw q at e in let w : ◌≡◌ {A = ℕ} 0 1 = cc in absurd (omega arith)) (λ q. q)
 
--- Lines that agree at each place are the same text.
-lines_same : (n : ℕ) (f g : ℕ → List ℕ) → ((k : ℕ) → k < n → f k ≡ g k) → lines_of n f ≡ lines_of n g
-unfolding lines_of
-lines_same zero f g e = refl
-lines_same (suc n) f g e = ap₂ ◌++◌ (lines_same n f g (λ k h. e k (omega arith))) (e n (omega arith))
-
 module _ (v : View) (s : sound v ≡ true) where
   pub few_units : v.units ≤ 64
   few_units = (soundness v s).few_units
@@ -43,21 +35,11 @@ module _ (v : View) (s : sound v ≡ true) where
   pub few_aquifers : v.aquifers ≤ 32
   few_aquifers = (soundness v s).few_aquifers
 
-  pub unit_lines_are : (us : List UnitFigures) → us ≡ (figures_reply v).units
-      → lines_of v.units (λ k. unit_text (get_or us k no_unit_figures) k) ≡ lines_of v.units (λ k. unit_text (unit_figures v k) k)
-  unit_lines_are us e =
-      let all : us ≡ all_unit_figures v = rw s at e in
-      lines_same v.units _ _
-      (λ k h. ap (λ (f : UnitFigures). unit_text f k)
-      (ap (λ (l : List UnitFigures). get_or l k no_unit_figures) all ∙ get_or_table 64 no_unit_figures v.units (unit_figures v) k h (omega (arith, few_units))))
+  pub units_are : (r : Figures) → r ≡ figures_reply v → r.units ≡ all_unit_figures v
+  units_are r e = let us : r.units ≡ (figures_reply v).units = ap (λ (x : Figures). x.units) e in rw s at us
 
-  pub aquifer_lines_are : (ws : List AquiferFigures) → ws ≡ (figures_reply v).aquifers
-      → lines_of v.aquifers (λ k. aquifer_text (get_or ws k no_aquifer_figures) k) ≡ lines_of v.aquifers (λ k. aquifer_text (aquifer_figures v k) k)
-  aquifer_lines_are ws e =
-      let all : ws ≡ all_aquifer_figures v = rw s at e in
-      lines_same v.aquifers _ _
-      (λ k h. ap (λ (f : AquiferFigures). aquifer_text f k)
-      (ap (λ (l : List AquiferFigures). get_or l k no_aquifer_figures) all ∙ get_or_table 32 no_aquifer_figures v.aquifers (aquifer_figures v) k h (omega (arith, few_aquifers))))
+  pub aquifers_are : (r : Figures) → r ≡ figures_reply v → r.aquifers ≡ all_aquifer_figures v
+  aquifers_are r e = let ws : r.aquifers ≡ (figures_reply v).aquifers = ap (λ (x : Figures). x.aquifers) e in rw s at ws
 
   pub table_is : lines_of v.units (λ k. unit_text (unit_figures v k) k) ++ lines_of v.aquifers (λ k. aquifer_text (aquifer_figures v k) k) ≡ table_text v
   table_is = rw s

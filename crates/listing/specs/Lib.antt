@@ -1,3 +1,3 @@
 -- What the program prints for a book.
 pub mod Listing
-pub mod Printing
+pub mod Outcomes

@@ -1,181 +1,179 @@
-// What the program prints for a book, put into a lent buffer.
+// What the program prints for a book, put on a page over a lent buffer.
 #![tactic(auto)]
 
-ghost use Rattle.std.specs.Prelude.{◌≡◌, ◌+◌, ◌≤◌, length, get_or, true};
+ghost use Rattle.std.specs.Prelude.{◌≡◌, ℕ, ◌+◌, ◌*◌, ◌≤◌, List, length, get_or, true};
 ghost use Rattle.model.specs.View.{view_of};
-ghost use Rattle.model.specs.Answers.{number};
+ghost use Rattle.model.specs.Answers.{accepted, number};
 ghost use Rattle.report.specs.Lines.{refused_line};
-ghost use Rattle.model.specs.Limits.{unit_limit, aquifer_limit};
+ghost use Rattle.model.specs.Limits.{unit_limit, title_limit};
+ghost use Rattle.register.specs.Calls.{call_number};
 ghost use Rattle.basin.specs.Sound.{sound};
+ghost use Rattle.calls.specs.Running.{ran};
 ghost use Rattle.figures.specs.Figures.{no_unit_figures, no_aquifer_figures};
+ghost use Rattle.record.specs.Calls.{calls_of};
 ghost use Rattle.text.specs.Text.{Written};
+ghost use Rattle.text.specs.Page.{Fits, Puts};
 ghost use Rattle.listing.specs.Listing as text;
-ghost use Rattle.listing.specs.Printing as printing;
+ghost use Rattle.listing.specs.Outcomes as outcomes;
 
 use basin::reply::figures;
+use calls::Ran;
 use figures::{AquiferFigures, UnitFigures};
 use model::{Answer, Balance, Call, Refusal};
 use record::{CallAt, Ending, Failure};
-use report::ROOM;
+use register::decision::decide;
+use register::outcome::{number_of, perform};
+use report::{AquiferLine, CallLine, Outcome, ROOM, RefusedLine, UnitLine};
+use text::Page;
 
 // The longest book.
 const LONGEST: usize = 65536;
 
-// The lines of the first n units.
-fn unit_lines(
-    out: &mut [u8; ROOM],
-    at: usize,
-    units: [UnitFigures; Balance::UNITS],
-    n: usize,
-) -> usize
-    requires { (n ≤ unit_limit) × (at + 8192 ≤ 1064960) }
-    ensures { Written 8192 out.old at (text.lines_of n (λ k. text.unit_text (get_or units k no_unit_figures) k)) out.new result }
-{
-    let mut p = report::no_line(out, at);
-    for i in 0..n {
-        p = unit_line(out, p, i, units[i]);
-    }
-    p
+// A row of the table: the figures of a unit or of an aquifer. Its line is numbered from 1, its index in the table counts from 0. Indices
+// and places are cast by `as u64` here and below, since std has no `From` of a `usize` for `u64`.
+trait Row: Copy {
+    ghost line: { Self → ℕ → List ℕ };
+
+    // What a list of rows is read as past its end.
+    ghost none: { Self };
+
+    // Puts the line of the row at an index.
+    fn put(self, page: &mut Page, k: usize)
+        requires { (k ≤ unit_limit) × Fits 128 page.old }
+        ensures { Puts 128 page.old (line self k) page.new };
 }
 
-// The line of the unit at an index.
-fn unit_line(out: &mut [u8; ROOM], at: usize, k: usize, f: UnitFigures) -> usize
-    requires { (k ≤ unit_limit) × (at + 128 ≤ 1064960) }
-    ensures { Written 128 out.old at (text.unit_text f k) out.new result }
-{
-    report::unit_line(
-        out,
-        at,
-        k as u64 + 1,
-        f.flow,
-        f.committed,
-        f.reserve,
-        f.availability,
-    )
-}
+impl Row for UnitFigures {
+    ghost line = { text.unit_text };
 
-// The lines of the first n aquifers.
-fn aquifer_lines(
-    out: &mut [u8; ROOM],
-    at: usize,
-    aquifers: [AquiferFigures; Balance::AQUIFERS],
-    n: usize,
-) -> usize
-    requires { (n ≤ aquifer_limit) × (at + 4096 ≤ 1064960) }
-    ensures { Written 4096 out.old at (text.lines_of n (λ k. text.aquifer_text (get_or aquifers k no_aquifer_figures) k)) out.new result }
-{
-    let mut p = report::no_line(out, at);
-    for i in 0..n {
-        p = aquifer_line(out, p, i, aquifers[i]);
-    }
-    p
-}
+    ghost none = { no_unit_figures };
 
-// The line of the aquifer at an index.
-fn aquifer_line(out: &mut [u8; ROOM], at: usize, k: usize, f: AquiferFigures) -> usize
-    requires { (k ≤ aquifer_limit) × (at + 128 ≤ 1064960) }
-    ensures { Written 128 out.old at (text.aquifer_text f k) out.new result }
-{
-    report::aquifer_line(out, at, k as u64 + 1, f.recharge, f.availability)
-}
-
-// The table of a balance: its units and then its aquifers.
-pub fn table(out: &mut [u8; ROOM], at: usize, b: Balance) -> usize
-    requires { at + 12288 ≤ 1064960 }
-    ensures { Written 12288 out.old at (text.table_text (view_of b)) out.new result }
-{
-    let n = b.unit_count;
-    let m = b.aquifer_count;
-    let f = figures(b);
-    let answer = f.answer;
-    let units = f.units;
-    let aquifers = f.aquifers;
-    match answer {
-        Ok(()) => {
-            let p = unit_lines(out, at, units, n);
-            aquifer_lines(out, p, aquifers, m)
+    fn put(self, page: &mut Page, k: usize) {
+        UnitLine {
+            number: k as u64 + 1,
+            flow: self.flow,
+            committed: self.committed,
+            reserve: self.reserve,
+            availability: self.availability,
         }
-        Err(_) => report::no_line(out, at),
+        .put(page);
     }
 }
 
-// The line of an accepted call.
-pub fn accepted_line(out: &mut [u8; ROOM], at: usize, k: u64, call: Call, number: u16) -> usize
-    requires { at + 64 ≤ 1064960 }
-    ensures { Written 64 out.old at (text.accepted_text k call number) out.new result }
+impl Row for AquiferFigures {
+    ghost line = { text.aquifer_text };
+
+    ghost none = { no_aquifer_figures };
+
+    fn put(self, page: &mut Page, k: usize) {
+        AquiferLine {
+            number: k as u64 + 1,
+            recharge: self.recharge,
+            availability: self.availability,
+        }
+        .put(page);
+    }
+}
+
+// The lines of all rows, in order.
+fn lines<T: Row>(page: &mut Page, rows: &[T])
+    requires { (length rows.now ≤ unit_limit) × Fits (128 * length rows.now) page.old }
+    ensures { Puts (128 * length rows.now) page.old (text.lines_of (length rows.now) (λ k. T.line (get_or rows.now k T.none) k)) page.new }
 {
-    match call {
-        Call::Grant { .. } => report::call_given(out, at, k, u64::from(number)),
-        Call::Cancel { .. } => report::call_cancelled(out, at, k, u64::from(number)),
+    for (k, row) in rows.iter().enumerate() {
+        row.put(page, k);
     }
 }
 
-// The line of a call.
-fn call_line(
-    out: &mut [u8; ROOM],
-    at: usize,
-    k: u64,
-    call: Call,
-    answer: Answer,
-    number: u16,
-) -> usize
-    requires { at + 64 ≤ 1064960 }
-    ensures { Written 64 out.old at (text.call_text k call answer number) out.new result }
+// The table of a balance: its units and then its aquifers. A balance that falls under 0 has none.
+pub fn table(page: &mut Page, b: Balance)
+    requires { Fits 12288 page.old }
+    ensures { Puts 12288 page.old (text.table_text (view_of b)) page.new }
+{
+    let f = figures(b);
+    if let Ok(()) = f.answer {
+        lines(page, &f.units[..b.unit_count]);
+        lines(page, &f.aquifers[..b.aquifer_count]);
+    }
+}
+
+// What an accepted call came to: a title given or cancelled, by its number.
+fn accepted(call: Call, number: u16) -> Outcome
+    ensures { result ≡ outcomes.accepted_outcome call number }
+{
+    let title = u64::from(number);
+    match call {
+        Call::Grant { .. } => Outcome::Given(title),
+        Call::Cancel { .. } => Outcome::Cancelled(title),
+    }
+}
+
+// What a refused request came to.
+fn refused(refusal: Refusal) -> Outcome
+    ensures { result ≡ outcomes.refused_outcome refusal }
+{
+    Outcome::Refused(u64::from(refusal.number()))
+}
+
+// What a request came to by its answer: `done` where it was accepted, and else its refusal.
+pub fn answered(answer: Answer, done: Outcome) -> Outcome
+    ensures { result ≡ outcomes.answered answer done }
 {
     match answer {
-        Ok(()) => accepted_line(out, at, k, call, number),
-        Err(refusal) => report::call_refused(out, at, k, u64::from(refusal.number())),
+        Ok(()) => done,
+        Err(refusal) => refused(refusal),
     }
 }
 
-// The position past the call lines, how the calls end, and the balance after them.
-#[derive(Clone, Copy)]
-struct Lines {
-    next: usize,
-    ending: Ending,
-    balance: Balance,
+// What a call came to by its answer, where so many numbers were given before it.
+pub fn called(call: Call, answer: Answer, given: usize) -> Outcome
+    requires { answer ≡ accepted → given ≤ title_limit }
+    ensures { result ≡ outcomes.answered answer (outcomes.accepted_outcome call (call_number given call)) }
+{
+    match answer {
+        Ok(()) => accepted(call, number_of(given, call)),
+        Err(refusal) => refused(refusal),
+    }
 }
 
-// Runs the calls of a book over a sound balance and puts a line for each into the buffer.
-fn call_lines(s: &[u8], from: usize, balance: Balance, out: &mut [u8; ROOM]) -> Lines
-    requires { (length s.now ≤ 65536) × (sound (view_of balance) ≡ true) }
-    ensures { printing.Printed s.now from balance out.old out.new result }
+// Runs the calls of a book over a sound balance and puts a line for each.
+fn call_lines(s: &[u8], from: usize, balance: Balance, page: &mut Page) -> Ran
+    requires { (length s.now ≤ 65536) × ((sound (view_of balance) ≡ true) × Fits 1048576 page.old) }
+    ensures ran { result ≡ ran s.now from balance }
+    ensures lines { Puts 1048576 page.old (text.call_lines 1 balance (calls_of s.now from)) page.new }
 {
-    let mut p = report::no_line(out, 0);
     let mut b = balance;
     let mut at = from;
-    let mut k = 0;
-    for _ in 0..s.len() + 1 {
+    for k in 0..s.len() + 1 {
         match record::call_at(s, at) {
             CallAt::End => {
-                return Lines {
-                    next: p,
+                return Ran {
                     ending: Ok(()),
                     balance: b,
                 };
             }
             CallAt::Fails { refusal } => {
-                return Lines {
-                    next: p,
+                return Ran {
                     ending: Err(Failure { refusal, place: at }),
                     balance: b,
                 };
             }
             CallAt::Asks { call, to } => {
-                let answer = register::decision::decide(b, true, call);
-                let number = register::outcome::number_of(b.given, call);
-                k += 1;
-                p = call_line(out, p, k, call, answer, number);
+                let answer = decide(b, true, call);
+                let outcome = called(call, answer, b.given);
+                CallLine {
+                    call: k as u64 + 1,
+                    outcome,
+                }
+                .put(page);
                 at = to;
-                match answer {
-                    Ok(()) => b = register::outcome::perform(b, call),
-                    Err(_) => {}
+                if let Ok(()) = answer {
+                    b = perform(b, call);
                 }
             }
         }
     }
-    Lines {
-        next: p,
+    Ran {
         ending: Err(Failure {
             refusal: Refusal::Short,
             place: at,
@@ -185,57 +183,65 @@ fn call_lines(s: &[u8], from: usize, balance: Balance, out: &mut [u8; ROOM]) -> 
 }
 
 // The line of a refused description or of a record that failed.
-pub fn refused_line(out: &mut [u8; ROOM], at: usize, refusal: Refusal, place: usize) -> usize
-    requires { at + 128 ≤ 1064960 }
-    ensures { Written 128 out.old at (refused_line (number refusal) place) out.new result }
+pub fn refused_line(page: &mut Page, refusal: Refusal, place: usize)
+    requires { Fits 128 page.old }
+    ensures { Puts 128 page.old (refused_line (number refusal) place) page.new }
 {
-    report::refused_line(out, at, u64::from(refusal.number()), place as u64)
+    RefusedLine {
+        number: u64::from(refusal.number()),
+        place: place as u64,
+    }
+    .put(page);
 }
 
 // The line of a record that failed, if one did.
-fn end_line(out: &mut [u8; ROOM], at: usize, ending: Ending) -> usize
-    requires { at + 128 ≤ 1064960 }
-    ensures { Written 128 out.old at (text.end_text ending) out.new result }
+fn end_line(page: &mut Page, ending: Ending)
+    requires { Fits 128 page.old }
+    ensures { Puts 128 page.old (text.end_text ending) page.new }
 {
-    match ending {
-        Ok(()) => report::no_line(out, at),
-        Err(failure) => refused_line(out, at, failure.refusal, failure.place),
+    if let Err(failure) = ending {
+        refused_line(page, failure.refusal, failure.place);
     }
 }
 
 // What follows the call lines: the line of a record that failed, then the table.
-fn ran_lines(out: &mut [u8; ROOM], at: usize, ending: Ending, balance: Balance) -> usize
-    requires { at + 12416 ≤ 1064960 }
-    ensures { Written 12416 out.old at (text.ran_text ending balance) out.new result }
+fn ran_lines(page: &mut Page, ran: Ran)
+    requires { Fits 12416 page.old }
+    ensures { Puts 12416 page.old (text.ran_text ran.ending ran.balance) page.new }
 {
-    let p = end_line(out, at, ending);
-    table(out, p, balance)
+    end_line(page, ran.ending);
+    table(page, ran.balance);
 }
 
 // What is printed for a sound balance: the call lines, then what follows them.
-fn run_lines(s: &[u8], from: usize, balance: Balance, out: &mut [u8; ROOM]) -> usize
-    requires { (length s.now ≤ 65536) × (sound (view_of balance) ≡ true) }
-    ensures { Written 1064960 out.old 0 (text.run_text s.now from balance) out.new result }
+fn run_lines(s: &[u8], from: usize, balance: Balance, page: &mut Page)
+    requires { (length s.now ≤ 65536) × ((sound (view_of balance) ≡ true) × Fits 1060992 page.old) }
+    ensures { Puts 1060992 page.old (text.run_text s.now from balance) page.new }
 {
-    let lines = call_lines(s, from, balance, out);
-    let ending = lines.ending;
-    let after = lines.balance;
-    ran_lines(out, lines.next, ending, after)
+    let ran = call_lines(s, from, balance, page);
+    ran_lines(page, ran);
+}
+
+// What is printed for a book.
+fn book_lines(s: &[u8], page: &mut Page)
+    requires { Fits 1060992 page.old }
+    ensures { Puts 1060992 page.old (text.printed s.now) page.new }
+{
+    if LONGEST < s.len() {
+        return refused_line(page, Refusal::TooLong, LONGEST);
+    }
+    let o = book::read_book(s);
+    match o.answer {
+        Ok(()) => run_lines(s, o.place, o.balance, page),
+        Err(refusal) => refused_line(page, refusal, o.place),
+    }
 }
 
 // What is printed for a book: its bytes from the start of the buffer on, and their number.
 pub fn print_book(s: &[u8], out: &mut [u8; ROOM]) -> usize
     ensures { Written 1064960 out.old 0 (text.printed s.now) out.new result }
 {
-    if LONGEST < s.len() {
-        return refused_line(out, 0, Refusal::TooLong, LONGEST);
-    }
-    let o = book::read_book(s);
-    let answer = o.answer;
-    let place = o.place;
-    let balance = o.balance;
-    match answer {
-        Ok(()) => run_lines(s, place, balance, out),
-        Err(refusal) => refused_line(out, 0, refusal, place),
-    }
+    let mut page = Page::new(out);
+    book_lines(s, &mut page);
+    page.len()
 }

@@ -23,9 +23,6 @@ pub record Turn (s : List ℕ) (at k : ℕ) (more : Bool) : Type 0 where
 abbrev pub left : List ℕ → ℕ → Bool → ℕ
 left s at more = cond more (suc (length s - at)) 0
 
-pub turn_start : (s old new : List ℕ) (r : Replayed) → Replied (begun s) old new r → Turn s r.next 1 r.more
-turn_start s old new r w = record { short = λ e. begun_short s (sym w.more ∙ e); place = omega arith; low = omega arith }
-
 module _ (s : List ℕ) (at k : ℕ) (st : State) (old new : List ℕ) (r : Replayed) (w : Replied (page_of page_limit k st s at) old new r) where
   goes : GoesOn page_limit at s (page_of page_limit k st s at)
   goes = page_onward page_limit k st s at

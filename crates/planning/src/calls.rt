@@ -6,7 +6,37 @@ ghost use Rattle.planning.specs.Calls as replies;
 use crate::decision::{decide_back, decide_keep};
 use crate::test::sound;
 use crate::{Kept, Name, Reply, State};
-use model::Answer;
+use model::{Answer, Balance};
+
+// Keeps a balance under a name: in the name's place, or under a new name in the next one. The balance stands for the current one of a
+// state that was tested for 0, and `sound` says what the test gave. The state's own balance is not read. A refused state stays as it was.
+pub fn keep_apart(s: &mut State, balance: Balance, sound: bool, name: Name) -> Answer
+    requires { sound ≡ sound_state (replies.with_current s.old balance) }
+    ensures answer { result ≡ (replies.keep_reply (replies.with_current s.old balance) name).answer }
+    ensures state { replies.with_current s.new balance ≡ (replies.keep_reply (replies.with_current s.old balance) name).state }
+    ensures own { s.new.balance ≡ s.old.balance }
+{
+    match decide_keep(s, sound, name)? {
+        Some(place) => s.kept[place].balance = balance,
+        None => {
+            s.kept[s.count] = Kept { name, balance };
+            s.count += 1;
+        }
+    }
+    Ok(())
+}
+
+// Goes back to what is kept under a name: that balance takes the place of the lent one, which stands for the current one of a state that was
+// tested for 0. `sound` says what the test gave. A refused return leaves the lent balance.
+pub fn back_apart(s: &State, balance: &mut Balance, sound: bool, name: Name) -> Answer
+    requires { sound ≡ sound_state (replies.with_current s.now balance.old) }
+    ensures answer { result ≡ (replies.back_reply (replies.with_current s.now balance.old) name).answer }
+    ensures state { replies.with_current s.now balance.new ≡ (replies.back_reply (replies.with_current s.now balance.old) name).state }
+{
+    let found = decide_back(s, sound, name)?;
+    *balance = s.kept[found].balance;
+    Ok(())
+}
 
 // Keeps the current balance of a state that was tested for 0 under a name: in the name's place, or under a new name in the next one.
 // `sound` says what the test gave. A refused state stays as it was.
@@ -15,23 +45,12 @@ pub fn keep_tested(s: &mut State, sound: bool, name: Name) -> Answer
     ensures answer { result ≡ (replies.keep_reply s.old name).answer }
     ensures state { s.new ≡ (replies.keep_reply s.old name).state }
 {
-    match decide_keep(s, sound, name)? {
-        Some(place) => {
-            s.kept[place].balance = s.balance;
-        }
-        None => {
-            s.kept[s.count] = Kept {
-                name,
-                balance: s.balance,
-            };
-            s.count += 1;
-        }
-    }
-    Ok(())
+    let balance = s.balance;
+    keep_apart(s, balance, sound, name)
 }
 
 // Goes back, in a state that was tested for 0, to what is kept under a name: that balance becomes the current one. `sound` says what the
-// test gave. A refused state stays as it was.
+// test gave. A refused state stays as it was. By `back_apart` the current balance would be copied out of the state and in again.
 pub fn back_tested(s: &mut State, sound: bool, name: Name) -> Answer
     requires { sound ≡ sound_state s.old }
     ensures answer { result ≡ (replies.back_reply s.old name).answer }

@@ -8,7 +8,6 @@ use native.Mathlib.Omega.{arith}
 use borrow.Author.Tests.{lt-ltb, le-ltb}
 use Rattle.laws.proofs.Cases.{by_lt}
 use Rattle.model.specs.declared.Refusal.{Refusal}
-use Rattle.model.specs.declared.Call.{Call}
 use Rattle.record.specs.declared.CallAt.{CallAt}
 use Rattle.record.specs.declared.CallAt.TheVariants.{End as noCall, Fails as failing, Asks}
 use Rattle.record.specs.Calls.{call_at}
@@ -49,9 +48,6 @@ unfolding record_at
 onward s at = besides_onward s at (call_at s at) refl
 
 module _ (s : List ℕ) (at : ℕ) (r : RecordAt) (e : r ≡ record_at s at) where
-  pub calls_onward : (c : Call) (to : ℕ) → r ≡ Calls c to → (at + 4 ≤ to) × (to ≤ length s)
-  calls_onward c to q = subst (Onward s at) (sym e ∙ q) (onward s at)
-
   pub keeps_onward : (to : ℕ) → r ≡ Keeps to → (to ≡ at + 10) × (to ≤ length s)
   keeps_onward to q = subst (Onward s at) (sym e ∙ q) (onward s at)
 

@@ -5,10 +5,13 @@ use mathlib.Core.Bool.{Bool, true, false}
 use mathlib.Core.List.{List, [], ◌++◌, append-nil, append_assoc}
 use native.Mathlib.Omega.{arith}
 use Rattle.model.specs.Answers.{number}
+use Rattle.std.proofs.Common.{MutBor}
 use Rattle.planning.specs.declared.State.{State}
 use Rattle.requests.specs.Requests.{Request, state_after, Asking, ends, fails, asks, request_at}
-use Rattle.text.specs.Text.{Written}
-use Rattle.text.proofs.Writing.{then, widen, still}
+use Rattle.text.specs.declared.Page.{Page as Sheet}
+use Rattle.text.specs.Page.{Fits, IsEmptyOver, Puts}
+use Rattle.text.proofs.Pages.{then, widen, still, on_buffer}
+use Rattle.text.proofs.Writing.{widen as widened}
 use Rattle.report.specs.Lines.{refused_line}
 use Rattle.replay.specs.declared.Replayed.{Replayed}
 use Rattle.model.specs.declared.Refusal.{Refusal}
@@ -58,15 +61,14 @@ after_joined text line i st to q =
     λ j. record { text = append_assoc text line q.text j; state = q.state; next = q.next; count = more j; more = q.more }
 
 -- The loop after i records.
-pub record Going (s : List ℕ) (from first most : ℕ) (start : State) (old : List ℕ) (p₀ : ℕ) (out : List ℕ) (p : ℕ) (cur : State) (at i : ℕ) : Type 0 where
+pub record Going (s : List ℕ) (from first most : ℕ) (start : State) (old sheet : Sheet) (cur : State) (at i : ℕ) : Type 0 where
   pub text : List ℕ
   pub few : i ≤ most
-  pub written : Written (64 * i) old p₀ text out p
+  pub put : Puts (64 * i) old text sheet
   pub all : after text i (page_of (most - i) (first + i) cur s at) ≡ page_of most first start s from
 
-pub going_start : (s : List ℕ) (from first most : ℕ) (start : State) {old : List ℕ} {at : ℕ} {out : List ℕ} {p : ℕ} → Written 0 old at [] out p
-    → Going s from first most start out p out p start from 0
-going_start s from first most start w =
+pub going_start : (s : List ℕ) (from first most : ℕ) (start : State) (sheet : Sheet) → Fits 0 sheet → Going s from first most start sheet sheet start from 0
+going_start s from first most start sheet h =
     let m : most - 0 ≡ most = omega arith in
     let k : first + 0 ≡ first = omega arith in
     let q = page_of most first start s from in
@@ -74,13 +76,13 @@ going_start s from first most start w =
     record {
       text = [];
       few = omega arith;
-      written = still w;
+      put = still sheet h;
       all = ap (λ (n : ℕ). after [] 0 (page_of n (first + 0) start s from)) m ∙ ap (λ (n : ℕ). after [] 0 (page_of most n start s from)) k
           ∙ (λ j. record { text = q.text; state = q.state; next = q.next; count = c j; more = q.more });
     }
 
-module _ (s : List ℕ) (from first most : ℕ) (start : State) {old : List ℕ} {p₀ : ℕ} {out : List ℕ} {p : ℕ} (cur : State) (at i : ℕ)
-    (g : Going s from first most start old p₀ out p cur at i) where
+module _ (s : List ℕ) (from first most : ℕ) (start : State) {old sheet : Sheet} (cur : State) (at i : ℕ)
+    (g : Going s from first most start old sheet cur at i) where
   -- The page that is left, with one record taken off.
   left : i < most → after g.text i (page_of (suc (most - (i + 1))) (first + i) cur s at) ≡ page_of most first start s from
   left h =
@@ -88,15 +90,15 @@ module _ (s : List ℕ) (from first most : ℕ) (start : State) {old : List ℕ}
       ap (λ (n : ℕ). after g.text i (page_of n (first + i) cur s at)) e ∙ g.all
 
   -- One record more.
-  pub going_on : i < most → (r : Request) (to : ℕ) → request_at s at ≡ asks r to → {new : List ℕ} {q : ℕ} → (next : State)
-      → Written 64 out p (reply_text (first + i) cur r) new q → next ≡ state_after cur r → Going s from first most start old p₀ new q next to (i + 1)
+  pub going_on : i < most → (r : Request) (to : ℕ) → request_at s at ≡ asks r to → {new : Sheet} → (next : State)
+      → Puts 64 sheet (reply_text (first + i) cur r) new → next ≡ state_after cur r → Going s from first most start old new next to (i + 1)
   going_on h r to e next w f =
       let k : first + (i + 1) ≡ suc (first + i) = omega arith in
       let line = reply_text (first + i) cur r in
       record {
         text = g.text ++ line;
         few = omega arith;
-        written = widen (then g.written w) (omega arith);
+        put = widen (then g.put w) (omega arith);
         all =
             (λ j. after (g.text ++ line) (i + 1) (page_of (most - (i + 1)) (k j) (f j) s to))
             ∙ after_joined g.text line i (state_after cur r) to (page_of (most - (i + 1)) (suc (first + i)) (state_after cur r) s to)
@@ -136,14 +138,10 @@ module _ (s : List ℕ) (from first most : ℕ) (start : State) {old : List ℕ}
 pub replied_as : {p q : Page} {old new : List ℕ} {r : Replayed} → p ≡ q → Replied p old new r → Replied q old new r
 replied_as e w = rw (← e) w
 
--- With a page's text written, what the code hands back is what the page gives.
-pub replied_with : {old new : List ℕ} {m : ℕ} (n : ℕ) (q : Page) (text : List ℕ) (st : State) (next count : ℕ) (more : Bool) (r : Replayed)
-    → Written m old 0 text new n → m ≤ 1064960 → record { text = text; state = st; next = next; count = count; more = more } ≡ q
-    → r ≡ replayed_so st next count n more → Replied q old new r
-replied_with n q text st next count more r w few e f =
-    replied_as e (rw f (record { text = widen w few; state = refl; next = refl; count = refl; more = refl }))
-
-pub replied_so : {begin old out : List ℕ} {p₀ m : ℕ} (p : ℕ) (q : Page) (text : List ℕ) (st : State) (next count : ℕ) (more : Bool) (r : Replayed)
-    → Written 0 begin 0 [] old p₀ → Written m old p₀ text out p → m ≤ 1064960
-    → record { text = text; state = st; next = next; count = count; more = more } ≡ q → r ≡ replayed_so st next count p more → Replied q begin out r
-replied_so p q text st next count more r none w few e f = replied_with p q text st next count more r (then none w) (omega arith) e f
+-- With a page's text put on an empty sheet, what the code hands back is what the page gives.
+pub replied_so : {buffer : MutBor (List ℕ)} {old new : Sheet} {m : ℕ} (n : ℕ) (q : Page) (text : List ℕ) (st : State) (next count : ℕ) (more : Bool) (r : Replayed)
+    → IsEmptyOver buffer old → Puts m old text new → m ≤ 1064960 → n ≡ new.len
+    → record { text = text; state = st; next = next; count = count; more = more } ≡ q → r ≡ replayed_so st next count n more
+    → Replied q buffer.now new.out.now r
+replied_so n q text st next count more r none w few l e f =
+    replied_as e (rw (f, l) (record { text = widened (on_buffer w none) few; state = refl; next = refl; count = refl; more = refl }))

@@ -12,8 +12,8 @@ use Rattle.model.specs.declared.Balance.{Balance}
 use Rattle.model.specs.declared.Call.{Call}
 use Rattle.model.specs.View.{view_of}
 use Rattle.basin.specs.Sound.{sound}
-use Rattle.register.specs.Calls.{call_reply, call_number}
-use Rattle.register.proofs.Keeping.{refused_keeps, accepted_number}
+use Rattle.register.specs.Calls.{call_reply}
+use Rattle.register.proofs.Keeping.{refused_keeps}
 use Rattle.planning.specs.declared.Name.{Name}
 use Rattle.planning.specs.declared.State.{State}
 use Rattle.planning.specs.declared.Reply.{Reply}
@@ -23,7 +23,10 @@ use Rattle.planning.specs.Calls.{with_current, back_reply}
 use Rattle.planning.proofs.Replying.{standing, back_faulty}
 use Rattle.planning.proofs.Promises.{keep_keeps, back_keeps, keep_stays, back_stays}
 use Rattle.requests.specs.Requests.{ask, keep, back, state_after}
-use Rattle.listing.specs.Listing.{call_text, accepted_text}
+use Rattle.report.specs.Calls.{outcome_line}
+use Rattle.report.specs.declared.Outcome.TheVariants.{Kept, Back}
+use Rattle.listing.specs.Outcomes.{answered}
+use Rattle.replay.specs.Page.{kept_text, back_text}
 
 -- What holds of the state in the loop beside its replies: what the two tests for 0 gave still holds, and its array is whole.
 pub record Tested (test whole : Bool) (st : State) : Type 0 where
@@ -72,15 +75,14 @@ module _ (test whole : Bool) (st : State) (t : Tested test whole st) (next : Sta
         sized = record { kept = ap (λ (x : State). length x.kept) e ∙ back_stays st n ∙ t.sized.kept };
       }
 
--- The line of a call, by its answer and the numbers that were given before it.
-module _ (k : ℕ) (b : Balance) (c : Call) where
-  by_answer : (x : Answer) → (call_reply b c).answer ≡ x → call_text k c x (call_number b.given c) ≡ call_text k c x (call_reply b c).number
-  by_answer (Ok u) e = ap (accepted_text k c) (sym (accepted_number b c e))
-  by_answer (Err n) e = refl
+-- The line of what a keeping came to, and of what a return came to, by its answer.
+pub kept_line : (k : ℕ) (a : Answer) → outcome_line k (answered a Kept) ≡ kept_text k a
+kept_line k (Ok u) = refl
+kept_line k (Err r) = refl
 
-  pub answered_text : (a : Answer) → a ≡ (call_reply b c).answer
-      → call_text k c a (call_number b.given c) ≡ call_text k c (call_reply b c).answer (call_reply b c).number
-  answered_text a e = ap (λ (x : Answer). call_text k c x (call_number b.given c)) e ∙ by_answer (call_reply b c).answer refl
+pub back_line : (k : ℕ) (a : Answer) → outcome_line k (answered a Back) ≡ back_text k a
+back_line k (Ok u) = refl
+back_line k (Err r) = refl
 
 -- A refused call leaves the state.
 pub refused_state : (st : State) (c : Call) (a : Answer) (x : Refusal) → a ≡ (call_reply st.balance c).answer → a ≡ Err x → st ≡ state_after st (ask c)

@@ -15,10 +15,11 @@ pub use opening::{begin_journal, open_journal};
 pub use page::{next_page, next_record};
 use planning::State;
 use report::ROOM;
+use text::Page;
 
 // What replaying some records of a journal gives: the state after them, the offset of the next one, how many were replayed, how many
 // bytes of the buffer their replies take, and whether there may be more. The reply to a record that fails with 1 or 2 is its line, and
-// nothing follows it.
+// nothing follows it. `next` is promised where nothing follows too, as the place of the end or of the refusal, so it is no `Option`.
 #[derive(Clone, Copy)]
 pub struct Replayed {
     pub state: State,
@@ -47,5 +48,7 @@ impl Replayed {
 pub fn table(balance: Balance, out: &mut [u8; ROOM]) -> usize
     ensures { Written 1064960 out.old 0 (table_text (view_of balance)) out.new result }
 {
-    listing::table(out, 0, balance)
+    let mut page = Page::new(out);
+    listing::table(&mut page, balance);
+    page.len()
 }

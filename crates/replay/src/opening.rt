@@ -7,6 +7,7 @@ use crate::Replayed;
 use model::{Answer, Balance, Refusal};
 use planning::{Opened, State};
 use report::ROOM;
+use text::Page;
 
 // The answer is that of an unknown mark.
 fn unknown(answer: Answer) -> bool
@@ -40,20 +41,18 @@ pub fn open_journal(s: &[u8]) -> Opened
 pub fn begin_journal(s: &[u8], out: &mut [u8; ROOM]) -> Replayed
     ensures { Replied (journals.begun s.now) out.old out.new result }
 {
+    let mut page = Page::new(out);
     if LIMIT < s.len() {
         let state = State::nothing_kept(Balance::fresh());
-        let length = listing::refused_line(out, 0, Refusal::TooLong, LIMIT);
-        return Replayed::begun(state, LIMIT, length, false);
+        listing::refused_line(&mut page, Refusal::TooLong, LIMIT);
+        return Replayed::begun(state, LIMIT, page.len(), false);
     }
     let o = open_journal(s);
     match o.answer {
-        Ok(()) => {
-            let length = report::no_line(out, 0);
-            Replayed::begun(o.state, o.place, length, true)
-        }
+        Ok(()) => Replayed::begun(o.state, o.place, page.len(), true),
         Err(refusal) => {
-            let length = listing::refused_line(out, 0, refusal, o.place);
-            Replayed::begun(o.state, o.place, length, false)
+            listing::refused_line(&mut page, refusal, o.place);
+            Replayed::begun(o.state, o.place, page.len(), false)
         }
     }
 }

@@ -1,5 +1,5 @@
 -- The text of each printed line, as the list of its bytes. Assumes nothing.
-use Rattle.std.specs.Prelude.{ℕ, List, [], ◌∷◌, ◌++◌, ℤ, Option, option_map, option_to_list}
+use Rattle.std.specs.Prelude.{ℕ, List, [], ◌∷◌, ◌++◌, ℤ}
 use Rattle.text.specs.Text.{ascii, decimal, signed}
 
 -- The rest of a line after its first word: a space and a word for each, and the line feed.
@@ -29,10 +29,6 @@ refused_line number place = line (ascii "refused") (decimal number ∷ ascii "at
 -- `call K W N`: the call's place among the calls, the word for its outcome, and a number.
 abbrev pub call_line : ℕ → List ℕ → ℕ → List ℕ
 call_line k outcome n = line (ascii "call") (decimal k ∷ outcome ∷ decimal n ∷ [])
-
--- `call K W` or `call K W N`: a call's line with a number, or with none.
-abbrev pub outcome_line : ℕ → List ℕ → Option ℕ → List ℕ
-outcome_line k outcome n = line (ascii "call") (decimal k ∷ outcome ∷ option_to_list (option_map decimal n))
 
 -- `call K given N`: the call's place among the calls and the number of the title.
 unfoldable pub call_given : ℕ → ℕ → List ℕ

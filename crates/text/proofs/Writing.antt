@@ -6,6 +6,7 @@ use native.Mathlib.Nat.{add_assoc, le_refl}
 use native.Mathlib.Numerals.{add-one}
 use native.Mathlib.Omega.{arith}
 use lib.ListN.{length, take, drop, set, length-append}
+use Rattle.std.proofs.Common.{length-set}
 use borrow.Rule.Slice.PartMut.{put_mid}
 use Rattle.std.proofs.lemmas.Slice.{put_mid-paste}
 use lib.Seq.{paste, paste-zero, take-length, length-take-le, length-paste, take-paste, drop-paste, drop-drop, set_split, append_snoc}
@@ -76,10 +77,6 @@ module _ {m : ℕ} {old : List ℕ} {at : ℕ} {s mid : List ℕ} {n : ℕ} (fir
   pub counts : (n ≤ length mid) × (n ≡ length (take n mid))
   counts = let inside : n ≤ length mid = omega (arith, kept_length) in (inside, sym (length-take-le n mid inside))
 
-  -- and then no text
-  pub still : Written 0 mid n [] mid n
-  still = nothing mid n (omega (arith, kept_length))
-
   -- one text and then another are the two together
   pub then : {k : ℕ} {t new : List ℕ} {r : ℕ} → Written k mid n t new r → Written (m + k) old at (s ++ t) new r
   then second = record {
@@ -99,6 +96,9 @@ byte_stored old at b h = record {
   buffer = set_split old at b h ∙ sym (written_parts old at (b ∷ []) ∙ append_snoc (take at old) b _ ∙ (rw add-one));
   place = refl;
 }
+
+-- what a store of one byte needs
+pub ruleset stores = (byte_stored, length-set)
 
 -- all bytes of a text copied over a part of its length
 pub word_stored : (old : List ℕ) (at n : ℕ) (text part : List ℕ) → at + length text ≤ length old → n ≡ length text → part ≡ text

@@ -1,1 +1,2 @@
+pub mod Page
 pub mod Text

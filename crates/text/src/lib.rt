@@ -1,57 +1,81 @@
-// The pieces of a printed line: bytes, words and decimal numbers put into a lent buffer. Each goes in at a position, and the answer is
-// the position past it.
+// The page that lines are printed on: a lent buffer and how much of it is written. Bytes, words and decimal numbers go behind what is
+// written. Not by `write!`: std's contracts say what it writes where it answers `Ok`, and none says that it does, so each line could fail.
 #![tactic(auto)]
-
-ghost use Rattle.std.specs.Prelude.{◌+◌, ◌≤◌, [], ◌∷◌, ◌++◌, length};
-ghost use Rattle.text.specs.Text.{ascii, decimal, signed, Written};
 
 use itoa::{Buffer, Integer};
 
-// One byte.
-#[tactic(auto, using(crate::proofs::Writing::byte_stored))]
-pub fn byte(out: &mut [u8], at: usize, b: u8) -> usize
-    requires { at + 1 ≤ length out.old }
-    ensures { Written 1 out.old at (b ∷ []) out.new result }
-{
-    out[at] = b;
-    at + 1
+// A page. Its first `len` bytes are written.
+#[derive(Drop)]
+pub struct Page<'a> {
+    out: &'a mut [u8],
+    len: usize,
 }
 
-// All bytes of text.
-#[tactic(auto, using(crate::proofs::Writing::word_stored))]
-pub fn word(out: &mut [u8], at: usize, text: &[u8]) -> usize
-    requires { at + length text.now ≤ length out.old }
-    ensures { Written (length text.now) out.old at text.now out.new result }
-{
-    let end = at + text.len();
-    out[at..end].copy_from_slice(text);
-    end
-}
+impl<'a> Page<'a> {
+    ghost use Rattle.std.specs.Prelude.{◌≡◌, ◌+◌, [], ◌∷◌, ◌++◌, length};
+    ghost use Rattle.text.specs.Text.{ascii, decimal, signed};
+    ghost use Rattle.text.specs.Page.{Fits, IsEmptyOver, Puts, page_len};
 
-// A space and n's decimal digits, after a minus sign where n is below 0.
-fn spaced<I: Integer>(out: &mut [u8], at: usize, n: I) -> usize
-    requires { at + 1 + I.MAX_STR_LEN ≤ length out.old }
-    ensures { Written (1 + I.MAX_STR_LEN) out.old at (ascii " " ++ I.text n) out.new result }
-{
-    let mut buffer = Buffer::new();
-    let a = byte(out, at, b' ');
-    word(out, a, buffer.format(n).as_bytes())
-}
+    // A page over a whole buffer, with nothing written.
+    pub fn new(out: &'a mut [u8]) -> Page<'a>
+        ensures { IsEmptyOver out.entry result }
+    {
+        Page { out, len: 0 }
+    }
 
-// A space and n's decimal digits.
-#[tactic(auto, using(crate::proofs::Decimal::decimal_written))]
-pub fn number(out: &mut [u8], at: usize, n: u64) -> usize
-    requires { at + 21 ≤ length out.old }
-    ensures { Written 21 out.old at (ascii " " ++ decimal n) out.new result }
-{
-    spaced(out, at, n)
-}
+    // How many bytes are written.
+    pub fn len(&self) -> usize
+        ensures { result ≡ page_len self.now }
+    {
+        self.len
+    }
 
-// A space and z's decimal digits, after a minus sign where z is below 0.
-#[tactic(auto, using(crate::proofs::Decimal::signed_written))]
-pub fn signed(out: &mut [u8], at: usize, z: i64) -> usize
-    requires { at + 22 ≤ length out.old }
-    ensures { Written 22 out.old at (ascii " " ++ signed z) out.new result }
-{
-    spaced(out, at, z)
+    // Puts one byte.
+    #[tactic(auto, using(crate::proofs::Writing::stores))]
+    pub fn byte(&mut self, b: u8)
+        requires { Fits 1 self.old }
+        ensures { Puts 1 self.old (b ∷ []) self.new }
+    {
+        self.out[self.len] = b;
+        self.len += 1;
+    }
+
+    // Puts all bytes of text.
+    #[tactic(auto, using(crate::proofs::Writing::word_stored))]
+    pub fn word(&mut self, text: &[u8])
+        requires { Fits (length text.now) self.old }
+        ensures { Puts (length text.now) self.old text.now self.new }
+    {
+        let end = self.len + text.len();
+        self.out[self.len..end].copy_from_slice(text);
+        self.len = end;
+    }
+
+    // Puts a space and n's decimal digits, after a minus sign where n is below 0.
+    fn spaced<I: Integer>(&mut self, n: I)
+        requires { Fits (1 + I.MAX_STR_LEN) self.old }
+        ensures { Puts (1 + I.MAX_STR_LEN) self.old (ascii " " ++ I.text n) self.new }
+    {
+        let mut buffer = Buffer::new();
+        self.byte(b' ');
+        self.word(buffer.format(n).as_bytes());
+    }
+
+    // Puts a space and n's decimal digits.
+    #[tactic(auto, using(crate::proofs::Decimal::decimal_written))]
+    pub fn number(&mut self, n: u64)
+        requires { Fits 21 self.old }
+        ensures { Puts 21 self.old (ascii " " ++ decimal n) self.new }
+    {
+        self.spaced(n);
+    }
+
+    // Puts a space and z's decimal digits, after a minus sign where z is below 0.
+    #[tactic(auto, using(crate::proofs::Decimal::signed_written))]
+    pub fn signed(&mut self, z: i64)
+        requires { Fits 22 self.old }
+        ensures { Puts 22 self.old (ascii " " ++ signed z) self.new }
+    {
+        self.spaced(z);
+    }
 }

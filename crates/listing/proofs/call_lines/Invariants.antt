@@ -1,4 +1,4 @@
--- `listing::call_lines` meets its contract. Assumes nothing.
+-- What is on the page and what the calls that are left put there are all call lines, and the balance stays sound.
 use Rattle.std.proofs.Common.{◌≡◌, ◌-◌}
 use mathlib.Core.Bool.{true}
 use Rattle.model.specs.View.{view_of}
@@ -6,5 +6,5 @@ use Rattle.basin.specs.Sound.{sound}
 use Rattle.listing.proofs.Calling.{Printing}
 use Rattle.listing.proofs.call_lines.Given as goal
 
-abbrev pub invariant-loop : goal.invariant-loop
-invariant-loop l = Printing l.s l.from l.initial.b l.initial.out l.initial.p l.out l.p l.b l.at l.k (l.end - l.counter) × (sound (view_of l.b) ≡ true)
+abbrev pub invariant-loop-k : goal.invariant-loop-k
+invariant-loop-k l = Printing l.s l.from l.initial.b l.initial.page l.page l.b l.at l.k (l.k-end - l.k) × (sound (view_of l.b) ≡ true)

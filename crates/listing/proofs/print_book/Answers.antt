@@ -1,37 +1,8 @@
--- `listing::print_book` meets its contract. Assumes nothing.
-use mathlib.Core.Path.{sym, ap, ◌∙◌}
-use native.Mathlib.Omega.{arith}
-use Rattle.book.specs.declared.Opened.{Opened}
-use Rattle.book.proofs.Promises.{opened_sound}
-use Rattle.model.specs.Answers.{number}
-use Rattle.report.specs.Lines.{refused_line}
-use Rattle.text.proofs.Writing.{widen, restate}
-use Rattle.listing.specs.Listing.{run_text}
-use Rattle.listing.proofs.Tables.{printed_long, printed_accepted, printed_refused}
+-- What was put on the page stands from the start of the buffer on.
+use Rattle.std.proofs.Common.{arith}
+use Rattle.text.proofs.Pages.{on_buffer}
+use Rattle.text.proofs.Writing.{widen}
 use Rattle.listing.proofs.print_book.Goals as goal
 
-pub returns-then-s-gt-LONGEST : goal.returns-then-s-gt-LONGEST
-returns-then-s-gt-LONGEST c = widen (restate c.refused_line.ensures (printed_long c.args.s.now c.if-s-gt-LONGEST.true)) (omega arith)
-
-pub run_lines-requires : goal.run_lines-requires
-run_lines-requires c =
-    let s = c.args.s.now in
-    (omega (arith, c.if-s-gt-LONGEST.false), opened_sound s _ c.read_book-o.ensures)
-
-pub returns-in-Ok : goal.returns-in-Ok
-returns-in-Ok c =
-    let s = c.args.s.now in
-    let r = c.read_book-o.ensures in
-    restate c.run_lines.ensures
-    (ap (λ (o : Opened). run_text s o.place o.balance) r
-    ∙ printed_accepted s c.if-s-gt-LONGEST.false (ap (λ (o : Opened). o.answer) (sym r) ∙ c.in-Ok.is))
-
-pub returns-in-Err : goal.returns-in-Err
-returns-in-Err c =
-    let s = c.args.s.now in
-    let r = c.read_book-o.ensures in
-    widen
-    (restate c.refused_line-in-Err.ensures
-    (ap (λ (o : Opened). refused_line (number c.in-Err.refusal) o.place) r
-    ∙ printed_refused s _ c.if-s-gt-LONGEST.false (ap (λ (o : Opened). o.answer) (sym r) ∙ c.in-Err.is)))
-    (omega arith)
+pub returns : goal.returns
+returns c = rw c.len.ensures (widen (on_buffer c.book_lines.ensures c.new-page.ensures) (omega arith))

@@ -1,10 +1,10 @@
--- `listing::ran_lines` meets its contract. Assumes nothing.
-use native.Mathlib.Omega.{arith}
-use Rattle.text.proofs.Writing.{then}
+-- The table follows the line of a record that failed.
+use Rattle.std.proofs.Common.{arith}
+use Rattle.text.proofs.Pages.{then}
 use Rattle.listing.proofs.ran_lines.Goals as goal
 
 pub table-requires : goal.table-requires
-table-requires c = omega (arith, c.end_line-p.ensures.short, c.end_line-p.ensures.place)
+table-requires c = let w = c.end_line.ensures in omega (arith, w.put.short, w.put.place, w.size)
 
 pub returns : goal.returns
-returns c = then c.end_line-p.ensures c.table.ensures
+returns c = then c.end_line.ensures c.table.ensures

@@ -1,13 +1,17 @@
--- `listing::run_lines` meets its contract. Assumes nothing.
-use mathlib.Core.Path.{ap₂}
-use native.Mathlib.Omega.{arith}
-use Rattle.text.proofs.Writing.{then, widen, restate}
+-- What follows the call lines is put behind them.
+use Rattle.std.proofs.Common.{ap, arith}
+use Rattle.calls.specs.declared.Ran.{Ran}
+use Rattle.text.proofs.Pages.{then, restate}
 use Rattle.listing.specs.Listing.{ran_text}
 use Rattle.listing.proofs.run_lines.Goals as goal
 
+pub call_lines-ran-requires : goal.call_lines-ran-requires
+call_lines-ran-requires c = (c.requires.0, (c.requires.1.0, omega arith))
+
+pub ran_lines-requires : goal.ran_lines-requires
+ran_lines-requires c = let w = c.call_lines-ran.ensures.lines in omega (arith, w.put.short, w.put.place, w.size)
+
 pub returns : goal.returns
 returns c =
-    let lines = c.call_lines-lines.ensures in
-    widen
-    (then lines.lines (restate c.ran_lines.ensures (ap₂ ran_text lines.ending lines.balance)))
-    (omega arith)
+    let calls = c.call_lines-ran.ensures in
+    then calls.lines (restate c.ran_lines.ensures (ap (λ (r : Ran). ran_text r.ending r.balance) calls.ran))

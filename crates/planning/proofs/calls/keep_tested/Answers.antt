@@ -1,28 +1,9 @@
--- `planning::keep_tested` meets its contract. Assumes nothing.
-use Prim.Native.Nat.{◌<◌}
-use mathlib.Core.Path.{sym, ap, ◌∙◌}
-use mathlib.Core.Bool.{Bool}
-use Rattle.std.specs.Prelude.{Ok}
-use native.Mathlib.Omega.{arith}
-use Rattle.planning.specs.Calls.{place_in}
-use Rattle.planning.specs.Decision.{keep_decision}
-use Rattle.planning.proofs.Replying.{standing}
-use Rattle.planning.proofs.Deciding.{again_within}
+-- With its own current balance a state is the state itself.
+use mathlib.Core.Path.{ap, ◌∙◌}
+use Rattle.planning.specs.Calls.{with_current}
 use Rattle.planning.proofs.calls.keep_tested.Goals as goal
-use Rattle.planning.proofs.calls.keep_tested.Goals.{In-Some}
 
--- The place that was decided on is one of the four.
-within : (c : In-Some) → c.in-Some.place < 4
-within c =
-    let s = c.args.s.now in
-    again_within s c.args.name _
-    (sym (ap (λ (t : Bool). keep_decision t (place_in s c.args.name) s.count) c.requires) ∙ sym c.in_ok-place.ensures ∙ ap Ok c.in-Some.is)
-
-pub decide_keep-requires : goal.decide_keep-requires
-decide_keep-requires c = λ e. (standing c.args.s.now (sym c.requires ∙ e)).few
-
-pub offset_bounds-s-place : goal.offset_bounds-s-place
-offset_bounds-s-place c = omega (arith, within (goal.at.offset_bounds-s-place c).In-Some)
-
-pub bounds-s-place : goal.bounds-s-place
-bounds-s-place c = within (goal.at.bounds-s-place c).In-Some
+pub returns : goal.returns
+returns c =
+    let kept = c.keep_apart.ensures in
+    record { answer = kept.answer; state = ap (with_current c.keep_apart.new.s) kept.own ∙ kept.state }

@@ -1,4 +1,5 @@
 -- The loop over the records of a page. Assumes nothing.
+use Rattle.planning.specs.Calls.{with_current}
 use Rattle.replay.proofs.Replaying.{Going}
 use Rattle.replay.proofs.Steps.{Tested}
 use Rattle.replay.proofs.page.replies.Given as goal
@@ -6,6 +7,6 @@ use Rattle.replay.proofs.page.replies.Given as goal
 abbrev pub invariant-loop-count : goal.invariant-loop-count
 invariant-loop-count l =
     record {
-      going : Going l.s l.from l.first l.most l.initial.st l.initial.out l.initial.length l.out l.length l.st l.next l.count;
-      tested : Tested l.sound l.whole l.st;
+      going : Going l.s l.from l.first l.most l.fn.state l.initial.page l.page (with_current l.kept l.balance) l.next l.count;
+      tested : Tested l.sound l.whole (with_current l.kept l.balance);
     }

@@ -1,0 +1,24 @@
+-- Each row puts its line behind those of the rows before it.
+use Rattle.std.proofs.Common.{◌≡◌, ◌*◌, length, subst, arith, ℕ}
+use Rattle.text.specs.Page.{Puts}
+use Rattle.text.proofs.Pages.{still}
+use Rattle.listing.specs.Listing.{lines_of}
+use Rattle.listing.proofs.Rows.{lines_to, line_more}
+use Rattle.listing.proofs.lines.Goals as goal
+
+pub loop-k-init : goal.loop-k-init
+unfolding lines_of
+loop-k-init g c = still c.args.page.now (omega arith)
+
+pub put-requires : goal.put-requires
+put-requires g c = let i = c.loop-k.invariant in (omega arith, omega (arith, i.put.short, i.put.place, i.size))
+
+pub loop-k-preserved : goal.loop-k-preserved
+loop-k-preserved g c =
+    let turn = c.loop-k in
+    line_more g.T.Row.line g.T.Row.none c.args.rows.now turn.k _ c.loop-k-test.true c.index-rows-k.is turn.invariant c.put.ensures
+
+pub returns : goal.returns
+returns g c =
+    let all : c.loop-k.k ≡ length c.args.rows.now = omega arith in
+    subst (λ (n : ℕ). Puts (128 * n) c.args.page.now (lines_to g.T.Row.line g.T.Row.none c.args.rows.now n) c.loop-k.page) all c.loop-k.invariant

@@ -1,0 +1,17 @@
+-- The pieces, one after another, are the line.
+use Rattle.std.proofs.Common.{◌≡◌, rules, arith, w64, to_z, of_z}
+use Rattle.std.proofs.lemmas.Int.{to_z-of_z}
+use Rattle.text.proofs.Pages.{then, widen}
+use Rattle.report.specs.Lines.{aquifer_line}
+use Rattle.report.proofs.AquiferLine.put.Goals as goal
+
+pub returns : goal.returns
+unfolding aquifer_line
+returns c =
+    let recharge : to_z w64 (of_z w64 c.args.self.recharge) ≡ c.args.self.recharge = search (rules, to_z-of_z) in
+    let availability : to_z w64 (of_z w64 c.args.self.availability) ≡ c.args.self.availability = search (rules, to_z-of_z) in
+    widen
+    (then c.word.ensures
+    (then c.number.ensures
+    (then (rw recharge at c.signed.ensures) (then (rw availability at c.signed-2.ensures) c.byte.ensures))))
+    (omega arith)
