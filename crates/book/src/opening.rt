@@ -10,6 +10,7 @@ use crate::step::Reader;
 use crate::{Next, Opened};
 use model::{Balance, Refusal};
 use record::{Failure, Progress, closing_fault, located, unit_of};
+use river::Tree;
 
 // Puts the open unit, if there is one, into the balance.
 fn store(b: &mut Balance, p: &Progress)
@@ -48,7 +49,7 @@ fn tested(b: Balance, at: usize) -> Result<Opened, Failure>
             place: j + 1,
         });
     }
-    if let Some(j) = river::first_negative(&b.units[..b.unit_count]) {
+    if let Some(j) = Tree::new(&b.units[..b.unit_count]).first_negative() {
         return Err(Failure {
             refusal: Refusal::NegativeFlow,
             place: j + 1,

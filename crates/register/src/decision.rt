@@ -11,6 +11,7 @@ ghost use Rattle.register.specs.Calls as calls;
 
 use crate::outcome::sized;
 use model::{Answer, Balance, Call, Refusal, Title, Unit};
+use river::Tree;
 
 // The answer to a grant on a sound balance: 12 to 16 and 18, then 17 with the title in.
 fn grant_answer(b: Balance, t: Title) -> Answer
@@ -37,7 +38,7 @@ fn needed(units: [Unit; Balance::UNITS], n: usize, t: Title) -> bool
     ensures { result ≡ not (sounds.flowing (units_view (lowered_units t units) n)) }
 {
     let less = effect::lowered_units(units, t);
-    river::first_negative(&less[..n]).is_some()
+    Tree::new(&less[..n]).first_negative().is_some()
 }
 
 // The answer to a cancellation on a sound balance: 19 where the number was not given or its place is not in force, then 20.

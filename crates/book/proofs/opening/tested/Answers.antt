@@ -14,14 +14,13 @@ same c = counted_units (view_of c.args.b) c.args.b.units (omega (arith, c.requir
 pub overflow_add-result : goal.overflow_add-result
 overflow_add-result c = omega (arith, missing_below (view_of c.args.b) _ (sym c.in-Some.ensures), c.requires.few)
 
-pub first_negative-requires : goal.first_negative-requires
-first_negative-requires c =
-    ready_same _ _ (same (goal.at.first_negative-requires c).In_default) (ready_of _ c.requires (sym c.in_default.ensures))
+pub new-requires : goal.new-requires
+new-requires c = ready_same _ _ (same (goal.at.new-requires c).In_default) (ready_of _ c.requires (sym c.in_default.ensures))
 
 pub overflow_add-result-in-Some-first_negative : goal.overflow_add-result-in-Some-first_negative
 overflow_add-result-in-Some-first_negative c =
     let s = same (goal.at.overflow_add-result-in-Some-first_negative c).In_default in
-    omega (arith, negative_below (view_of c.args.b) _ (sym (negative_same _ _ s) ∙ sym c.in-Some-first_negative.ensures), c.requires.few)
+    omega (arith, negative_below (view_of c.args.b) _ (sym (negative_same _ _ s) ∙ sym (rw c.new.ensures at c.in-Some-first_negative.ensures)), c.requires.few)
 
 pub returns-in-Some : goal.returns-in-Some
 returns-in-Some c = tested_missing c.args.b c.args.at _ (sym c.in-Some.ensures)
@@ -30,10 +29,10 @@ pub returns-in-Some-first_negative : goal.returns-in-Some-first_negative
 returns-in-Some-first_negative c =
     let s = same (goal.at.returns-in-Some-first_negative c).In_default in
     tested_negative c.args.b c.args.at _ (sym c.in_default.ensures)
-    (sym (negative_same _ _ s) ∙ sym c.in-Some-first_negative.ensures)
+    (sym (negative_same _ _ s) ∙ sym (rw c.new.ensures at c.in-Some-first_negative.ensures))
 
 pub returns : goal.returns
 returns c =
     let s = same (goal.at.returns c).In_default in
     tested_accepted c.args.b c.args.at (sym c.in_default.ensures)
-    (sym (negative_same _ _ s) ∙ sym c.in_default-first_negative.ensures)
+    (sym (negative_same _ _ s) ∙ sym (rw c.new.ensures at c.in_default-first_negative.ensures))

@@ -25,14 +25,14 @@ ready c = subst⁻¹ (λ (us : List Unit). Ready (units_view us c.args.n)) c.low
 same : (c : After-lowered_units-less) → SameUnits (view c) (units_of (take c.args.n c.lowered_units-less.result))
 same c = counted_units (view c) c.lowered_units-less.result (omega (arith, (ready c).few)) (λ k h. refl)
 
-pub first_negative-requires : goal.first_negative-requires
-first_negative-requires c =
-    let less = (goal.at.first_negative-requires c).After-lowered_units-less in
+pub new-requires : goal.new-requires
+new-requires c =
+    let less = (goal.at.new-requires c).After-lowered_units-less in
     ready_same _ _ (same less) (ready less)
 
 pub returns : goal.returns
 returns c =
     c.is_some.ensures
-    ∙ ap is_some (c.first_negative.ensures ∙ negative_same _ _ (same (goal.at.returns c).After-lowered_units-less))
+    ∙ ap is_some (rw c.new.ensures at c.first_negative.ensures ∙ negative_same _ _ (same (goal.at.returns c).After-lowered_units-less))
     ∙ some_fails (λ j. non_neg (flow (units_view c.lowered_units-less.result c.args.n) j)) c.args.n
     ∙ ap (λ (us : List Unit). not (flowing (units_view us c.args.n))) c.lowered_units-less.ensures
