@@ -9,8 +9,7 @@ use Rattle.laws.proofs.Cases.{by_bool, by_lt}
 use Rattle.planning.specs.declared.State.{State}
 use Rattle.replay.specs.declared.Replayed.{Replayed}
 use Rattle.replay.specs.Page.{page_limit, page_of, Replied}
-use Rattle.replay.specs.Journal.{journal_limit, begun}
-use Rattle.replay.proofs.Ending.{begun_short}
+use Rattle.replay.specs.Journal.{journal_limit}
 use Rattle.transcript.proofs.Pages.{GoesOn, page_onward}
 
 -- Before a page: a journal that goes on is not too long, each record before it took four bytes, and its first place is small.

@@ -1,5 +1,5 @@
 // Writing what is printed for a journal, page by page.
-ghost use Rattle.std.specs.Prelude.{◌≡◌, ◌≤◌, true, length, take, OnOk};
+ghost use Rattle.std.specs.Prelude.{◌≡◌, ◌≤◌, true, length, OnOk};
 ghost use Rattle.std.specs.Io.KnownBytes.{Appends};
 ghost use Rattle.replay.specs.Journal.{journal_limit, journal_text};
 ghost use Rattle.output.specs.Left.{left_text};
@@ -9,15 +9,9 @@ use report::ROOM;
 use std::io;
 use std::io::Write;
 
-// Writes the first bytes of a buffer.
-fn put<W: Write>(to: &mut W, out: &[u8; ROOM], n: usize) -> io::Result<()>
-    requires { n ≤ length out.now }
-    ensures { OnOk result (Appends (W.contents to.old) (W.contents to.new) (take n out.now)) }
-{
-    to.write_all(&out[..n])
-}
-
-// Writes the replies to the records that are left after the beginning of a journal, a page at a time, then the table.
+// Writes the replies to the records that are left after the beginning of a journal, a page at a time, then the table. It is a `while`, since
+// only a page tells whether another follows, and k, the place of the next record, goes on by how many a page has: at most 16,384, so that
+// the cast is exact and a `try_from` would be no plainer.
 fn put_pages<W: Write>(
     to: &mut W,
     s: &[u8],
@@ -27,22 +21,15 @@ fn put_pages<W: Write>(
     requires { begun.more ≡ true → length s.now ≤ journal_limit }
     ensures { OnOk result (Appends (W.contents to.old) (W.contents to.new) (left_text s.now begun.next 1 begun.state begun.more)) }
 {
-    let mut st = begun.state;
-    let mut at = begun.next;
-    let mut more = begun.more;
+    let mut page = begun;
     let mut k = 1u32;
-    while more {
-        let r = replay::next_page(st, s, at, k, out);
-        put(to, out, r.length)?;
-        let next = r.state;
-        st = next;
-        at = r.next;
-        more = r.more;
-        k += r.count as u32;
+    while page.more {
+        page = replay::next_page(page.state, s, page.next, k, out);
+        to.write_all(&out[..page.length])?;
+        k += page.count as u32;
     }
-    let balance = st.balance;
-    let m = replay::table(balance, out);
-    put(to, out, m)
+    let length = replay::table(page.state.balance, out);
+    to.write_all(&out[..length])
 }
 
 // Writes what is printed for a journal, each page as it comes, then the table, through a lent buffer. Where something cannot be written, the
@@ -51,6 +38,6 @@ pub fn put_journal<W: Write>(to: &mut W, s: &[u8], out: &mut [u8; ROOM]) -> io::
     ensures { OnOk result (Appends (W.contents to.old) (W.contents to.new) (journal_text s.now)) }
 {
     let begun = replay::begin_journal(s, out);
-    put(to, out, begun.length)?;
+    to.write_all(&out[..begun.length])?;
     put_pages(to, s, begun, out)
 }

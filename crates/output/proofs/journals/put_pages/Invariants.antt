@@ -4,12 +4,12 @@ use Rattle.output.proofs.Putting.{Putting}
 use Rattle.output.proofs.Turns.{Turn, left}
 use Rattle.output.proofs.journals.put_pages.Given as goal
 
-abbrev pub invariant-loop-more : goal.invariant-loop-more
-invariant-loop-more g l =
+abbrev pub invariant-loop-page : goal.invariant-loop-page
+invariant-loop-page g l =
     record {
-      put : Putting l.s (left_text l.s l.fn.begun.next 1 l.fn.begun.state l.fn.begun.more) (g.W.Write.contents l.initial.to) (g.W.Write.contents l.to) l.at l.k l.st l.more;
-      turn : Turn l.s l.at l.k l.more;
+      put : Putting l.s (left_text l.s l.fn.begun.next 1 l.fn.begun.state l.fn.begun.more) (g.W.Write.contents l.initial.to) (g.W.Write.contents l.to) l.page.next l.k l.page.state l.page.more;
+      turn : Turn l.s l.page.next l.k l.page.more;
     }
 
-abbrev pub decreases-loop-more : goal.decreases-loop-more
-decreases-loop-more g l = left l.s l.at l.more
+abbrev pub decreases-loop-page : goal.decreases-loop-page
+decreases-loop-page g l = left l.s l.page.next l.page.more
