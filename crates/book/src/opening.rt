@@ -74,6 +74,7 @@ fn ended(mut b: Balance, p: &Progress, at: usize) -> Result<Opened, Failure>
 }
 
 // Reads the description of a book record by record into a balance, to its end or to the first refusal.
+
 fn read(s: &[u8]) -> Result<Opened, Failure>
     ensures { opening.handed_back result ≡ reading.opened s.now }
 {
@@ -84,7 +85,7 @@ fn read(s: &[u8]) -> Result<Opened, Failure>
         let reader = Reader {
             book: s,
             at,
-            progress: p,
+            progress: &p,
         };
         match reader.next()? {
             Next::Ends => return ended(b, &p, at),
