@@ -74,7 +74,6 @@ fn ended(mut b: Balance, p: &Progress, at: usize) -> Result<Opened, Failure>
 }
 
 // Reads the description of a book record by record into a balance, to its end or to the first refusal.
-
 fn read(s: &[u8]) -> Result<Opened, Failure>
     ensures { opening.handed_back result ≡ reading.opened s.now }
 {
