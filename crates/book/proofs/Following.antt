@@ -2,20 +2,17 @@
 use Rattle.std.specs.Prelude.{Ok, Err}
 use Prim.Native.Nat.{ℕ, suc, ◌+◌, ◌-◌, ◌≤◌, ◌<◌}
 use mathlib.Core.Path.{◌≡◌, refl, sym, ap, ◌∙◌, subst, subst⁻¹}
-use mathlib.Core.Bool.{Bool, cond}
 use mathlib.Core.List.{List, [], ◌∷◌, ◌++◌}
 use lib.ListN.{length, get_or, set, length-set, replicate}
 use lib.Seq.{get_or-set_same}
 use native.Mathlib.Omega.{arith}
-use borrow.Author.Tests.{eq-eqb, ne_eqb}
 use Rattle.laws.proofs.Arrays.{filled_start, filled_table}
 use Rattle.model.specs.declared.Refusal.TheVariants.{Short}
-use Rattle.model.specs.declared.Unit.{Unit}
 use Rattle.model.specs.declared.Aquifer.{Aquifer}
 use Rattle.model.specs.declared.Balance.{Balance}
 use Rattle.model.specs.Fresh.{empty_unit, empty_aquifer, empty_place, fresh_balance}
 use Rattle.record.specs.declared.UnitRecord.{UnitRecord}
-use Rattle.record.specs.Record.{closed_unit, no_sums}
+use Rattle.record.specs.Record.{no_sums}
 use Rattle.record.specs.Described.{no_unit, summed, unit_of}
 use Rattle.record.specs.Entries.{unit_entry, aquifer_entry}
 use Rattle.record.specs.Fault.{closing_fault}
@@ -24,7 +21,7 @@ use Rattle.record.specs.declared.Failure.{Failure}
 use Rattle.book.specs.declared.Next.TheVariants.{Ends, Opens, Grows, Adds}
 use Rattle.book.specs.Reading.{Description, last_sums, with_unit, with_last, with_aquifer, reading_from, reading, opened_as, opened}
 use Rattle.book.specs.Steps.{Step, next}
-use Rattle.book.specs.Opening.{put_unit, put_aquifer, stored, draft, refused_with, ended_with, EndReady}
+use Rattle.book.specs.Opening.{put_aquifer, stored, draft, refused_with, ended_with, EndReady}
 use Rattle.book.proofs.Entries.{standing, reads_end, reads_clear}
 use Rattle.book.proofs.Growing.{Good, good_start, good_entry, clear_unit, clear_aquifer, draft_unit, draft_last, draft_aquifer, snoc_length, snoc_last}
 use Rattle.book.proofs.Telling.{Told, next_told}
@@ -107,20 +104,6 @@ module _ (s : List ℕ) (b : Balance) (unit : UnitRecord) (units aquifers at lef
         within = stand.within;
         same = sym (reads_clear (left - 1) s at x (unit_entry w) to t.found t.passed) ∙ allowed;
       }
-
-  -- The first unit: there is none before it to be put in.
-  pub reached_first : units ≡ 0 → (v : UnitRecord) (to : ℕ) → next s at unit units aquifers ≡ Ok (Opens v to) → Reached s b v 1 aquifers to (left - 1)
-  reached_first z v to e =
-      subst (λ (x : Balance). Reached s x v 1 aquifers to (left - 1)) (ap (λ (t : Bool). cond t b (put_unit b (units - 1) (closed_unit unit))) (eq-eqb units 0 z))
-      (subst (λ (n : ℕ). Reached s (stored b unit units) v n aquifers to (left - 1)) (omega arith) (reached_opens v to e))
-
-  -- Another unit: the one before it is put in.
-  pub reached_next : (units ≡ 0 → ⊥) → (w : Unit) → w ≡ closed_unit unit → (v : UnitRecord) (to : ℕ) → next s at unit units aquifers ≡ Ok (Opens v to)
-      → Reached s (put_unit b (units - 1) w) v (units + 1) aquifers to (left - 1)
-  reached_next z w q v to e =
-      subst (λ (x : Balance). Reached s x v (units + 1) aquifers to (left - 1))
-      (ap (λ (t : Bool). cond t b (put_unit b (units - 1) (closed_unit unit))) (ne_eqb units 0 z) ∙ ap (put_unit b (units - 1)) (sym q))
-      (reached_opens v to e)
 
   pub reached_grows : (v : UnitRecord) (to : ℕ) → next s at unit units aquifers ≡ Ok (Grows v to) → Reached s b v units aquifers to (left - 1)
   reached_grows v to e =

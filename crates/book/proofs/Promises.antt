@@ -10,8 +10,6 @@ use lib.Dec.{ltb}
 use lib.Signed.{non_neg}
 use native.Mathlib.Omega.{arith}
 use borrow.Author.Tests.{ltb-false, not-false}
-use Rattle.laws.proofs.Parts.{parts_non_neg}
-use Rattle.laws.proofs.Signs.{below_pos}
 use Rattle.model.specs.declared.Refusal.{Refusal}
 use Rattle.model.specs.declared.Refusal.TheVariants.{Short, BadDownstream, NegativeFlow}
 use Rattle.model.specs.declared.Aquifer.{Aquifer}
@@ -24,7 +22,6 @@ use Rattle.titles.proofs.Adding.{places_none}
 use Rattle.titles.specs.declared.Slot.{Slot}
 use Rattle.titles.specs.declared.Slot.TheVariants.{Extraction, Exports, Imports, Returns, WellExtraction}
 use Rattle.river.specs.Flow.{flow}
-use Rattle.river.specs.Wells.{recharge}
 use Rattle.river.proofs.Firsts.{nothing_passed}
 use Rattle.runoff.specs.Record.{gauged_on, sum_on}
 use Rattle.runoff.proofs.Rounding.{natural_within}

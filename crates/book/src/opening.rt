@@ -85,7 +85,7 @@ fn read(s: &[u8]) -> Result<Opened, Failure>
         let reader = Reader {
             book: s,
             at,
-            progress: p,
+            progress: &p,
         };
         match reader.next()? {
             Next::Ends => return ended(b, &p, at),

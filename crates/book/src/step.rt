@@ -21,9 +21,9 @@ use runoff::{Measure, Rain, Soils};
 pub struct Reader<'a> {
     pub book: &'a [u8],
     pub at: usize,
-    pub progress: Progress,
+    pub progress: &'a Progress,
     ghost inside: { at ≤ length book.now },
-    ghost sane: { Sane progress.open },
+    ghost sane: { Sane progress.now.open },
 }
 
 impl Reader<'_> {
@@ -39,12 +39,12 @@ impl Reader<'_> {
 
     // A UN closes the open unit, then opens the next.
     fn unit_step(&self) -> Result<Next, Failure>
-        ensures { result ≡ steps.unit_step self.now.book.now self.now.at self.now.progress.open self.now.progress.units self.now.progress.aquifers }
+        ensures { result ≡ steps.unit_step self.now.book.now self.now.at self.now.progress.now.open self.now.progress.now.units self.now.progress.now.aquifers }
     {
         self.whole(31)?;
-        located(closing_fault(&self.progress), self.progress.open.at)?;
+        located(closing_fault(self.progress), self.progress.open.at)?;
         let unit = unit_record(self.book, self.at);
-        located(unit_fault(&self.progress, unit), self.at)?;
+        located(unit_fault(self.progress, unit), self.at)?;
         Ok(Next::Opens {
             unit,
             to: self.at + 31,
@@ -53,20 +53,20 @@ impl Reader<'_> {
 
     // An SU belongs to the open unit.
     fn soil_step(&self) -> Result<Next, Failure>
-        ensures { result ≡ steps.soil_step self.now.book.now self.now.at self.now.progress.open self.now.progress.units self.now.progress.aquifers }
+        ensures { result ≡ steps.soil_step self.now.book.now self.now.at self.now.progress.now.open self.now.progress.now.units self.now.progress.now.aquifers }
     {
         self.whole(8)?;
         let plot = soil_record(self.book, self.at);
-        located(soil_fault(&self.progress, plot), self.at)?;
+        located(soil_fault(self.progress, &plot), self.at)?;
         Ok(Next::Grows {
-            unit: with_soil(self.progress.open, plot),
+            unit: with_soil(self.progress.open, &plot),
             to: self.at + 8,
         })
     }
 
     // A PR or PD belongs to the open unit.
     fn rain_step(&self, measure: Measure) -> Result<Next, Failure>
-        ensures { result ≡ steps.rain_step measure self.now.book.now self.now.at self.now.progress.open self.now.progress.units self.now.progress.aquifers }
+        ensures { result ≡ steps.rain_step measure self.now.book.now self.now.at self.now.progress.now.open self.now.progress.now.units self.now.progress.now.aquifers }
     {
         self.whole(4)?;
         let rain = Rain {
@@ -74,7 +74,7 @@ impl Reader<'_> {
             depth: u32::from(bits16(self.book, self.at + 2)),
         };
         let tenths = rain.in_tenths();
-        located(rain_fault(&self.progress, tenths), self.at)?;
+        located(rain_fault(self.progress, tenths), self.at)?;
         let soils = Soils {
             area: self.progress.open.hectares,
             weighted: self.progress.open.weighted,
@@ -88,11 +88,11 @@ impl Reader<'_> {
 
     // An AF belongs to the open unit.
     fn gauge_step(&self) -> Result<Next, Failure>
-        ensures { result ≡ steps.gauge_step self.now.book.now self.now.at self.now.progress.open self.now.progress.units self.now.progress.aquifers }
+        ensures { result ≡ steps.gauge_step self.now.book.now self.now.at self.now.progress.now.open self.now.progress.now.units self.now.progress.now.aquifers }
     {
         self.whole(34)?;
         let gauged = gauged_record(self.book, self.at);
-        located(gauge_fault(&self.progress, &gauged), self.at)?;
+        located(gauge_fault(self.progress, &gauged), self.at)?;
         Ok(Next::Grows {
             unit: with_year(self.progress.open, gauged.year()),
             to: self.at + 34,
@@ -101,12 +101,12 @@ impl Reader<'_> {
 
     // An AC closes the open unit, then adds an aquifer.
     fn aquifer_step(&self) -> Result<Next, Failure>
-        ensures { result ≡ steps.aquifer_step self.now.book.now self.now.at self.now.progress.open self.now.progress.units self.now.progress.aquifers }
+        ensures { result ≡ steps.aquifer_step self.now.book.now self.now.at self.now.progress.now.open self.now.progress.now.units self.now.progress.now.aquifers }
     {
         self.whole(22)?;
-        located(closing_fault(&self.progress), self.progress.open.at)?;
+        located(closing_fault(self.progress), self.progress.open.at)?;
         let aquifer = aquifer_record(self.book, self.at);
-        located(aquifer_fault(&self.progress, aquifer), self.at)?;
+        located(aquifer_fault(self.progress, aquifer), self.at)?;
         Ok(Next::Adds {
             aquifer,
             to: self.at + 22,
@@ -116,7 +116,7 @@ impl Reader<'_> {
     // What stands at the offset does to the description so far.
     #[tactic(auto, unfolding(crate::specs::Steps::next))]
     pub fn next(&self) -> Result<Next, Failure>
-        ensures { result ≡ steps.next self.now.book.now self.now.at self.now.progress.open self.now.progress.units self.now.progress.aquifers }
+        ensures { result ≡ steps.next self.now.book.now self.now.at self.now.progress.now.open self.now.progress.now.units self.now.progress.now.aquifers }
     {
         let left = self.book.len() - self.at;
         if left == 0 {

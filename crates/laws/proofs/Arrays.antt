@@ -39,9 +39,6 @@ module _ {A : Type 0} (n : ℕ) (d : A) (f : ℕ → A) where
         rest = λ j g. get_or-set_other w i j x d (omega arith) ∙ p.rest j (omega arith);
       }
 
-  pub filled_more : (i : ℕ) (w : List A) → i < n → Filled n d f i w → Filled n d f (suc i) (set w i (f i))
-  filled_more i w h p = filled_put i w (f i) h refl p
-
 -- An array of n places, each of which holds what has arrived there from the first i places.
 pub record Arrived (n : ℕ) (down x : ℕ → ℕ) (i : ℕ) (w : List ℕ) : Type 0 where
   pub long : length w ≡ n

@@ -1,17 +1,14 @@
 -- How a return of a chain of tests meets the chain of the definition, and the tests of such a chain. Assumes nothing.
 use Prim.Native.Nat.{ℕ, ◌≤◌, ◌<◌}
-use mathlib.Core.Path.{◌≡◌, refl}
-use mathlib.Core.Bool.{Bool, true, false, cond, ◌&&◌, ◌||◌}
+use mathlib.Core.Path.{◌≡◌}
+use mathlib.Core.Bool.{Bool, true, false, cond, ◌&&◌}
 use lib.Dec.{eqb, ltb, leb}
 use borrow.Author.Tests.{lt-ltb, le-ltb, le-leb, lt-leb, eq-eqb, ne_eqb}
 
--- The answer of a test that holds, and of one that does not.
+-- The answer of a test that holds.
 module _ {A : Type 0} where
   pub hit : (t : Bool) (x y r : A) → t ≡ true → r ≡ x → r ≡ cond t x y
   hit t x y r e q = rw e q
-
-  pub miss : (t : Bool) (x y r : A) → t ≡ false → r ≡ y → r ≡ cond t x y
-  miss t x y r e q = rw e q
 
 -- Tests from facts.
 pub t_lt : (a b : ℕ) → a < b → ltb a b ≡ true
@@ -31,11 +28,6 @@ t_eq = eq-eqb
 
 pub f_eq : (a b : ℕ) → (a ≡ b → ⊥) → eqb a b ≡ false
 f_eq = ne_eqb
-
--- A test that always fails adds nothing to a disjunction.
-pub or_none : (t : Bool) → t ≡ t || false
-or_none true = refl
-or_none false = refl
 
 -- A conjunction of tests.
 pub t_and : (t u : Bool) → t ≡ true → u ≡ true → t && u ≡ true

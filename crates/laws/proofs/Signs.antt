@@ -1,13 +1,12 @@
 -- Laws of signed numbers by their natural parts, and of the bits that hold them. Assumes nothing.
-use Prim.Native.Nat.{ℕ, zero, suc, ◌-◌, ◌≤◌, ◌<◌, ◌^◌}
-use mathlib.Core.Path.{◌≡◌, refl, sym, ap, ◌∙◌}
+use Prim.Native.Nat.{ℕ, suc, ◌-◌, ◌≤◌, ◌<◌, ◌^◌}
+use mathlib.Core.Path.{◌≡◌, refl}
 use mathlib.Core.Bool.{false, true≢false}
-use lib.IntN.{ℤ, pos, negsuc, sub_ℕ, ◌-ℤ◌}
+use lib.IntN.{ℤ, pos, negsuc, sub_ℕ}
 use lib.Signed.{mag, lt_z}
 use mir.Syntax.{w64}
 use mir.Val.{SFits, to_z, of_z}
 use mir.ValLaws.{to_z-of_z}
-use native.Mathlib.Omega.{arith}
 use borrow.Author.Tests.{lt-ltb, le-ltb}
 use Rattle.laws.specs.Signed.{below}
 
@@ -17,10 +16,6 @@ subℕ_lt a b h = rw (lt-ltb a b h)
 
 pub subℕ_le : (a b : ℕ) → b ≤ a → sub_ℕ a b ≡ pos (a - b)
 subℕ_le a b h = rw (le-ltb a b h)
-
-pub minus_is : (a b : ℕ) → pos a -ℤ pos b ≡ sub_ℕ a b
-minus_is a zero = ap pos (omega arith) ∙ sym (subℕ_le a 0 (omega arith))
-minus_is a (suc b) = refl
 
 -- What the bits of a signed word stand for.
 pub whole : (z : ℤ) → SFits w64 z → to_z w64 (of_z w64 z) ≡ z

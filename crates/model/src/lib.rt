@@ -66,7 +66,7 @@ pub enum Title {
     },
 }
 
-// A place of the register: a title, and whether it is in force.
+// A place of the register: a title, and whether it is in force. The flag stays, since a cancelled title keeps its place.
 #[derive(Clone, Copy)]
 pub struct Place {
     pub title: Title,

@@ -53,15 +53,6 @@ again_of true None n k e =
     (λ q. let z : Ok None ≡ Ok (Some k) = rw q at e in cc)
 again_of false None n k e = cc
 
-anew_of : (test : Bool) (f : Option ℕ) (n : ℕ) → keep_decision test f n ≡ Ok None → n < place_limit
-anew_of true (Some j) n e = cc
-anew_of false (Some j) n e = cc
-anew_of true None n e =
-    by_bool (leb place_limit n)
-    (λ q. let z : Err FifthName ≡ Ok None = rw q at e in cc)
-    (λ q. leb-false _ _ q)
-anew_of false None n e = cc
-
 to_of : (test : Bool) (f : Option ℕ) (k : ℕ) → back_decision test f ≡ Ok k → (test ≡ true) × (f ≡ Some k)
 to_of true (Some j) k e = (refl, cc)
 to_of false (Some j) k e = cc
@@ -76,12 +67,5 @@ module _ (s : State) (n : Name) where
   pub again_within : (k : ℕ) → keep_decision (sound_state s) (place_in s n) s.count ≡ Ok (Some k) → k < place_limit
   again_within k e = found_within k (again_of (sound_state s) (place_in s n) s.count k e)
 
-  pub anew_within : keep_decision (sound_state s) (place_in s n) s.count ≡ Ok None → s.count < place_limit
-  anew_within e = anew_of (sound_state s) (place_in s n) s.count e
-
   pub to_within : (k : ℕ) → back_decision (sound_state s) (place_in s n) ≡ Ok k → k < place_limit
   to_within k e = found_within k (to_of (sound_state s) (place_in s n) k e)
-
-  -- Going back is accepted of a sound state only.
-  pub to_sound : (k : ℕ) → back_decision (sound_state s) (place_in s n) ≡ Ok k → sound_state s ≡ true
-  to_sound k e = (to_of (sound_state s) (place_in s n) k e).0

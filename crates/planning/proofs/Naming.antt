@@ -37,23 +37,6 @@ same_exactly a b = (
   λ e. (bytes_decides a.bytes b.bytes).1 (ap (λ (n : Name). n.bytes) e),
 )
 
--- Names of eight bytes are the same exactly if each of the eight is.
-every_byte : (a b : Name) → length a.bytes ≡ name_length → length b.bytes ≡ name_length
-    → every name_length (λ k. eqb (get_or a.bytes k 0) (get_or b.bytes k 0)) ≡ true → a.bytes ≡ b.bytes
-every_byte a b p q e =
-    ext_get_or 0 a.bytes b.bytes (p ∙ sym q)
-    (λ k h. eqb-true _ _ (every_each (λ j. eqb (get_or a.bytes j 0) (get_or b.bytes j 0)) name_length e k (omega arith)))
-
-pub same_each : (a b : Name) → length a.bytes ≡ name_length → length b.bytes ≡ name_length
-    → same_name a b ≡ every name_length (λ k. eqb (get_or a.bytes k 0) (get_or b.bytes k 0))
-same_each a b p q =
-    by_bool (same_name a b)
-    (λ e. e ∙ sym (each_every _ name_length (λ k h. eq-eqb _ _ (ap (λ (l : List ℕ). get_or l k 0) ((bytes_decides a.bytes b.bytes).0 e)))))
-    (λ e.
-    by_bool (every name_length (λ k. eqb (get_or a.bytes k 0) (get_or b.bytes k 0)))
-    (λ g. absurd (true≢false (sym ((bytes_decides a.bytes b.bytes).1 (every_byte a b p q g)) ∙ e)))
-    (λ g. e ∙ sym g))
-
 -- No place before one has a name exactly where the search of the name among them finds nothing.
 none_before : (names : ℕ → Name) (k : ℕ) (n : Name) → place_of names k n ≡ None → every k (λ j. not (same_name (names j) n)) ≡ true
 none_before names k n e = each_every _ k (λ j h. ap not (nothing_passed _ k e j h))

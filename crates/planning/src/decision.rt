@@ -1,4 +1,6 @@
 // What keeping under a name and going back to one come to, on a state that was tested for 0.
+// The test's answer stays a flag beside the state: a type of both, with `sound ≡ sound_state` as its invariant, would ask more of callers than the
+// clauses here, which bound the count of a state that is called sound.
 ghost use Rattle.std.specs.Prelude.{◌≡◌, ◌≤◌, true};
 ghost use Rattle.planning.specs.Names.{place_limit};
 ghost use Rattle.planning.specs.Calls.{place_in};

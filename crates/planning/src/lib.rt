@@ -16,7 +16,7 @@ pub use opening::open_book;
 pub use test::sound;
 
 // A name of eight bytes. Any eight bytes are a name.
-#[derive(Clone, Copy, PartialEq, Eq)]
+#[derive(Clone, Copy, Default, PartialEq, Eq)]
 pub struct Name {
     pub bytes: [u8; Name::BYTES],
 }
@@ -62,9 +62,7 @@ impl Name {
     pub fn empty() -> Self
         ensures { result ≡ states.empty_name }
     {
-        Name {
-            bytes: [0; Self::BYTES],
-        }
+        Name::default()
     }
 }
 

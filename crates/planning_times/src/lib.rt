@@ -10,7 +10,8 @@ ghost use Rattle.planning_times.specs.Timed as timed;
 use model::{Answer, Call};
 use planning::{Name, State};
 
-// The name that is in turn: 1, 2, 3 or 4 in its first byte, and 0 in the others.
+// The name that is in turn: 1, 2, 3 or 4 in its first byte, and 0 in the others. The cast is proved to fit: `try_from` would add a branch that
+// never runs.
 fn name_in_turn(i: u64) -> Name
     ensures { result ≡ timed.name_in_turn i }
 {

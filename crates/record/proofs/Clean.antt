@@ -10,7 +10,7 @@ use lib.Signed.{lt_z}
 use native.Mathlib.Omega.{arith}
 use borrow.Author.Tests.{ltb-false, leb-false, leb-true, ltb-true, eqb-true, eq-eqb, ne_eqb}
 use Rattle.laws.specs.Signed.{above, below}
-use Rattle.laws.proofs.Cases.{by_lt, by_eq}
+use Rattle.laws.proofs.Cases.{by_eq}
 use Rattle.laws.proofs.Parts.{plus_parts, by_sign, lt_z_false}
 use Rattle.laws.proofs.Signs.{below_pos}
 use Rattle.model.specs.declared.Refusal.TheVariants.{FewYears, BadGauge}

@@ -4,13 +4,11 @@ use Prim.Native.Nat.{ℕ, ◌+◌, ◌*◌, ◌≤◌, ◌<◌}
 use mathlib.Core.Path.{◌≡◌, refl, sym, ◌∙◌}
 use mathlib.Core.Bool.{Bool, true, false, ◌||◌, true≢false}
 use lib.Dec.{eqb, ltb, leb}
-use lib.IntN.{ℤ, pos, negsuc}
-use lib.Signed.{lt_z}
+use lib.IntN.{ℤ}
 use native.Mathlib.Omega.{arith}
 use borrow.Author.Tests.{ltb-false, leb-false, eqb-false, lt-ltb, le-ltb}
-use Rattle.laws.specs.Signed.{above, below}
 use Rattle.laws.proofs.Cases.{by_lt}
-use Rattle.laws.proofs.Parts.{Less, less_above, less_below, by_sign}
+use Rattle.laws.proofs.Parts.{less_above, less_below}
 use Rattle.model.specs.declared.Aquifer.{Aquifer}
 use Rattle.model.proofs.Answers.{pass}
 use Rattle.model.specs.Ranges.{are_terms, is_storage, aquifer_within}
@@ -19,14 +17,10 @@ use Rattle.laws.proofs.Every.{both}
 use mathlib.Core.List.{[], ◌∷◌}
 use Rattle.record.specs.declared.UnitRecord.{UnitRecord}
 use Rattle.runoff.specs.Soil.{Known}
-use Rattle.record.specs.Fault.{not_term, not_storage, terms_outside, aquifer_outside, soil_outside, soil_fault, rain_outside, rain_fault, gauge_outside_by, gauge_outside, gauge_fault, YearRange, gauge_outside_at, gauged_outside}
-use Rattle.record.specs.Described.{gauged_at}
-use mathlib.Core.List.{List}
-use Rattle.record.specs.Bytes.{bits32, signed_bits32}
-use Rattle.record.specs.Record.{gauge_of}
+use Rattle.record.specs.Fault.{not_storage, terms_outside, aquifer_outside, soil_outside, soil_fault, rain_outside, rain_fault, gauge_fault, YearRange, gauged_outside}
 use Rattle.runoff.specs.declared.Measure.{Measure}
 use Rattle.runoff.specs.declared.Measure.TheVariants.{Millimetres, Tenths}
-use Rattle.runoff.specs.Year.{in_tenths, gauged_year}
+use Rattle.runoff.specs.Year.{in_tenths}
 use Rattle.runoff.specs.declared.Gauged.{Gauged}
 use Rattle.runoff.specs.Record.{gauged_of}
 use Rattle.runoff.proofs.GaugedParts.{gauged_parts}
@@ -63,26 +57,6 @@ outside_aquifer a e =
       extraction = (first_within a.extraction _ c.rest).first;
       storage = storage_within a.storage p.1;
     }
-
--- Negative by its part below 0.
-pub negative_below : (z : ℤ) → 0 < below z → lt_z z (pos 0) ≡ true
-negative_below (pos n) h = absurd (omega arith)
-negative_below (negsuc n) h = refl
-
-pub not_negative : (z : ℤ) → below z ≤ 0 → lt_z z (pos 0) ≡ false
-not_negative (pos n) h = le-ltb n 0 (omega arith)
-not_negative (negsuc n) h = absurd (omega arith)
-
-pub compare_above : (z : ℤ) (n : ℕ) → below z ≤ 0 → ltb n (above z) ≡ lt_z (pos n) z
-compare_above (pos m) n h = refl
-compare_above (negsuc m) n h = absurd (omega arith)
-
--- A difference is negative exactly where more is lost than gained.
-pub less_negative : {z : ℤ} {a b : ℕ} → Less z a b → ltb a b ≡ lt_z z (pos 0)
-less_negative {z} {a} {b} p =
-    by_lt a b
-    (λ h. lt-ltb a b h ∙ sym (by_sign z (λ g. absurd (omega arith)) (λ g k. negative_below z k)))
-    (λ h. le-ltb a b h ∙ sym (by_sign z (λ g. not_negative z (omega arith)) (λ g k. absurd (omega arith))))
 
 -- What a record without a fault satisfies.
 pub record SoilClean (units aquifers : ℕ) (u : UnitRecord) (cover soil hectares : ℕ) : Type 0 where

@@ -67,8 +67,8 @@ pub fn unit_fault(p: &Progress, u: UnitRecord) -> Answer
 }
 
 // A field of an SU outside its values.
-fn soil_outside(plot: Plot) -> bool
-    ensures { result ≡ faults.soil_outside plot.cover plot.soil plot.hectares }
+fn soil_outside(plot: &Plot) -> bool
+    ensures { result ≡ faults.soil_outside plot.now.cover plot.now.soil plot.now.hectares }
 {
     !(1..=14).contains(&plot.cover)
         || !(1..=3).contains(&plot.soil)
@@ -76,9 +76,9 @@ fn soil_outside(plot: Plot) -> bool
 }
 
 // The fault of an SU. `Sane` stays a clause: as an invariant of `Progress` or of its open unit it would ask more of callers of the other faults.
-pub fn soil_fault(p: &Progress, plot: Plot) -> Answer
+pub fn soil_fault(p: &Progress, plot: &Plot) -> Answer
     requires { Sane p.now.open }
-    ensures { result ≡ faults.soil_fault p.now.units p.now.aquifers p.now.open plot.cover plot.soil plot.hectares }
+    ensures { result ≡ faults.soil_fault p.now.units p.now.aquifers p.now.open plot.now.cover plot.now.soil plot.now.hectares }
 {
     let u = p.open;
     if 0 < p.aquifers || p.units == 0 || 0 < u.years {

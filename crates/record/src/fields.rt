@@ -128,10 +128,10 @@ pub fn gauged_record(s: &[u8], i: usize) -> Gauged
 
 // The unit with a soil record in. Here and of a year more, `Sane` stays a clause: as an invariant of `UnitRecord` it would ask more of callers
 // of the faults, which take any unit.
-pub fn with_soil(u: UnitRecord, plot: Plot) -> UnitRecord
+pub fn with_soil(u: UnitRecord, plot: &Plot) -> UnitRecord
     requires sane { Sane u }
-    requires known { Known plot.cover plot.soil }
-    ensures { result ≡ records.with_soil u plot.cover plot.soil plot.hectares }
+    requires known { Known plot.now.cover plot.now.soil }
+    ensures { result ≡ records.with_soil u plot.now.cover plot.now.soil plot.now.hectares }
 {
     let area = u64::from(plot.hectares);
     let weighted = area * plot.coefficient();

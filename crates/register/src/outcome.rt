@@ -45,7 +45,8 @@ pub fn perform(b: Balance, c: Call) -> Balance
     }
 }
 
-// The number that an accepted call tells: the next one for a grant, the cancelled one for a cancellation.
+// The number that an accepted call tells: the next one for a grant, the cancelled one for a cancellation. The cast is proved to fit: `try_from`
+// would add a branch that never runs.
 pub fn number_of(given: usize, c: Call) -> u16
     requires { given ≤ title_limit }
     ensures { result ≡ calls.call_number given c }

@@ -5,19 +5,17 @@ ghost use Rattle.requests.specs.Records as records;
 use crate::{OwnMark, RecordAt};
 use model::Refusal;
 use planning::Name;
-use record::{CallAt, spells};
+use record::CallAt;
 
 // The record of a journal alone that two bytes are the mark of, if they are.
 fn own_mark(a: u8, b: u8) -> Option<OwnMark>
     ensures { result ≡ records.own_mark a b }
 {
-    if spells(a, b, 75, 80) {
-        return Some(OwnMark::Kp);
+    match (a, b) {
+        (b'K', b'P') => Some(OwnMark::Kp),
+        (b'G', b'B') => Some(OwnMark::Gb),
+        _ => None,
     }
-    if spells(a, b, 71, 66) {
-        return Some(OwnMark::Gb);
-    }
-    None
 }
 
 // The mark of a journal alone that stands at an offset, if one does.

@@ -136,7 +136,8 @@ fn rounded(num: u64, den: u64) -> u64
     (2 * num + den) / (2 * den)
 }
 
-// The years of a unit: whether they are gauged, how many there are, and their sum, of rain years in 6,000,000,000ths.
+// The years of a unit: whether they are gauged, how many there are, and their sum, of rain years in 6,000,000,000ths. The flag stays, since it
+// answers one question, which `divisor` alone asks: an enum of two names would be no plainer.
 #[derive(Clone, Copy)]
 pub struct Years {
     pub gauged: bool,

@@ -2,11 +2,10 @@
 use Rattle.std.specs.Prelude.{Option, Some, None, Ok, Err}
 use Prim.Native.Nat.{ℕ, zero, suc, ◌+◌, ◌-◌, ◌*◌, ◌≤◌, ◌<◌}
 use mathlib.Core.Path.{◌≡◌, refl, sym, ap, ap₂, subst, ◌∙◌}
-use mathlib.Core.Bool.{Bool, true, false, cond}
+use mathlib.Core.Bool.{Bool, true, false, not, cond}
 use mathlib.Core.List.{List, [], ◌∷◌, ◌++◌}
 use lib.Dec.{eqb, ltb, leb}
 use lib.IntN.{pos}
-use lib.Signed.{lt_z}
 use lib.ListN.{length, get_or, take, length-append, get_or-append}
 use lib.Seq.{length-take-le, get_or-take, get_or_at, get_or-append-add}
 use native.Mathlib.Omega.{arith}
@@ -17,7 +16,7 @@ use Rattle.laws.proofs.Every.{both}
 use Rattle.model.specs.declared.Refusal.{Refusal}
 use Rattle.model.specs.declared.Refusal.TheVariants.{Short, UnknownMark, BadDownstream, NegativeFlow, OutOfSequence, TooMany, OutsideValues, FewYears, LargeUnit, BadGauge, NegativeRecharge, Unsound, NoSuchPlace, NoSuchUse, BadVolume, NumbersGiven, EntryFull, NoWater, ReceiverBelow, NotInForce, FlowNeeded, TooLong, FifthName, NoSuchName}
 use Rattle.model.specs.declared.Aquifer.{Aquifer}
-use Rattle.river.specs.Wells.{recharge}
+use Rattle.figures.specs.Recharge.{is_recharged}
 use Rattle.runoff.specs.declared.Measure.{Measure}
 use Rattle.runoff.specs.declared.Measure.TheVariants.{Millimetres, Tenths}
 use Rattle.runoff.specs.declared.Rain.{Rain}
@@ -96,7 +95,7 @@ aquifer_other : (aquifers : ℕ) (a : Aquifer) → Other (aquifer_fault aquifers
 aquifer_other aquifers a =
     chosen Other (leb 32 aquifers) (Err TooMany) _ (λ e. omega arith)
     (chosen Other (aquifer_outside a) (Err OutsideValues) _ (λ e. omega arith)
-    (chosen Other (lt_z (recharge a) (pos 0)) (Err NegativeRecharge) (Ok tt) (λ e. omega arith) tt))
+    (chosen Other (not (is_recharged a)) (Err NegativeRecharge) (Ok tt) (λ e. omega arith) tt))
 
 -- A verdict that is not under that number.
 abbrev OtherVerdict : Verdict → Type 0

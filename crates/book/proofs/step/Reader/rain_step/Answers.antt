@@ -10,9 +10,9 @@ use Rattle.book.proofs.step.Reader.rain_step.Goals as goal
 use Rattle.book.proofs.step.Reader.rain_step.Goals.{After-rain_year-year}
 
 -- A year with no fault is inside its values.
-in-range : (c : After-rain_year-year) → RainRange c.args.self.now.progress.open.hectares c.args.self.now.progress.open.weighted c.in_tenths-tenths.result
+in-range : (c : After-rain_year-year) → RainRange c.args.self.now.progress.now.open.hectares c.args.self.now.progress.now.open.weighted c.in_tenths-tenths.result
 in-range c =
-    let p = c.args.self.now.progress in
+    let p = c.args.self.now.progress.now in
     let clean : rain_fault p.units p.aquifers p.open Tenths c.in_tenths-tenths.result ≡ Ok tt = search rules in
     record {
       area_to = c.args.self.now.sane.area;
