@@ -109,7 +109,7 @@ fn accepted(call: Call, number: u16) -> Outcome
 }
 
 // What a refused request came to.
-fn refused(refusal: Refusal) -> Outcome
+pub fn refused(refusal: Refusal) -> Outcome
     ensures { result ≡ outcomes.refused_outcome refusal }
 {
     Outcome::Refused(u64::from(refusal.number()))
