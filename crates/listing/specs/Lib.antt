@@ -1,3 +1,4 @@
 -- What the program prints for a book.
 pub mod Listing
 pub mod Outcomes
+pub mod Printing

@@ -8,13 +8,12 @@ ghost use Rattle.report.specs.Lines.{refused_line};
 ghost use Rattle.model.specs.Limits.{unit_limit, title_limit};
 ghost use Rattle.register.specs.Calls.{call_number};
 ghost use Rattle.basin.specs.Sound.{sound};
-ghost use Rattle.calls.specs.Running.{ran};
 ghost use Rattle.figures.specs.Figures.{no_unit_figures, no_aquifer_figures};
-ghost use Rattle.record.specs.Calls.{calls_of};
 ghost use Rattle.text.specs.Text.{Written};
 ghost use Rattle.text.specs.Page.{Fits, Puts};
 ghost use Rattle.listing.specs.Listing as text;
 ghost use Rattle.listing.specs.Outcomes as outcomes;
+ghost use Rattle.listing.specs.Printing as printing;
 
 use basin::reply::figures;
 use calls::Ran;
@@ -109,7 +108,7 @@ fn accepted(call: Call, number: u16) -> Outcome
 }
 
 // What a refused request came to.
-fn refused(refusal: Refusal) -> Outcome
+pub fn refused(refusal: Refusal) -> Outcome
     ensures { result ≡ outcomes.refused_outcome refusal }
 {
     Outcome::Refused(u64::from(refusal.number()))
@@ -139,8 +138,7 @@ pub fn called(call: Call, answer: Answer, given: usize) -> Outcome
 // Runs the calls of a book over a sound balance and puts a line for each.
 fn call_lines(s: &[u8], from: usize, balance: Balance, page: &mut Page) -> Ran
     requires { (length s.now ≤ 65536) × ((sound (view_of balance) ≡ true) × Fits 1048576 page.old) }
-    ensures ran { result ≡ ran s.now from balance }
-    ensures lines { Puts 1048576 page.old (text.call_lines 1 balance (calls_of s.now from)) page.new }
+    ensures { printing.Printed s.now from balance page.old page.new result }
 {
     let mut b = balance;
     let mut at = from;

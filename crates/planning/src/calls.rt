@@ -26,18 +26,6 @@ pub fn keep_apart(s: &mut State, balance: Balance, sound: bool, name: Name) -> A
     Ok(())
 }
 
-// Goes back to what is kept under a name: that balance takes the place of the lent one, which stands for the current one of a state that was
-// tested for 0. `sound` says what the test gave. A refused return leaves the lent balance.
-pub fn back_apart(s: &State, balance: &mut Balance, sound: bool, name: Name) -> Answer
-    requires { sound ≡ sound_state (replies.with_current s.now balance.old) }
-    ensures answer { result ≡ (replies.back_reply (replies.with_current s.now balance.old) name).answer }
-    ensures state { replies.with_current s.now balance.new ≡ (replies.back_reply (replies.with_current s.now balance.old) name).state }
-{
-    let found = decide_back(s, sound, name)?;
-    *balance = s.kept[found].balance;
-    Ok(())
-}
-
 // Keeps the current balance of a state that was tested for 0 under a name: in the name's place, or under a new name in the next one.
 // `sound` says what the test gave. A refused state stays as it was.
 pub fn keep_tested(s: &mut State, sound: bool, name: Name) -> Answer
@@ -50,7 +38,7 @@ pub fn keep_tested(s: &mut State, sound: bool, name: Name) -> Answer
 }
 
 // Goes back, in a state that was tested for 0, to what is kept under a name: that balance becomes the current one. `sound` says what the
-// test gave. A refused state stays as it was. By `back_apart` the current balance would be copied out of the state and in again.
+// test gave. A refused state stays as it was.
 pub fn back_tested(s: &mut State, sound: bool, name: Name) -> Answer
     requires { sound ≡ sound_state s.old }
     ensures answer { result ≡ (replies.back_reply s.old name).answer }

@@ -10,7 +10,7 @@ mod test;
 ghost use Rattle.std.specs.Prelude.{◌≡◌};
 ghost use Rattle.planning.specs.State as states;
 
-pub use calls::{back, back_apart, back_tested, keep, keep_apart, keep_tested};
+pub use calls::{back, back_tested, keep, keep_apart, keep_tested};
 use model::Balance;
 pub use opening::open_book;
 pub use test::sound;

@@ -1,5 +1,5 @@
 -- What each kind of request does to the state and to the two tests for 0. Assumes nothing.
-use Rattle.std.specs.Prelude.{Ok, Err}
+use Rattle.std.specs.Prelude.{Result, Ok, Err}
 use Prim.Native.Nat.{ℕ}
 use mathlib.Core.Path.{◌≡◌, refl, sym, ap, ◌∙◌}
 use mathlib.Core.Bool.{Bool, ◌&&◌}
@@ -19,7 +19,9 @@ use Rattle.planning.specs.declared.State.{State}
 use Rattle.planning.specs.declared.Reply.{Reply}
 use Rattle.planning.specs.Names.{place_limit, distinct}
 use Rattle.planning.specs.State.{Sized, name_at, kept_sound, sound_state}
-use Rattle.planning.specs.Calls.{with_current, back_reply}
+use Rattle.planning.specs.Calls.{place_in, with_current, back_reply}
+use Rattle.planning.specs.Decision.{back_decision, back_as}
+use Rattle.planning.proofs.Deciding.{back_decided}
 use Rattle.planning.proofs.Replying.{standing, back_faulty}
 use Rattle.planning.proofs.Promises.{keep_keeps, back_keeps, keep_stays, back_stays}
 use Rattle.requests.specs.Requests.{ask, keep, back, state_after}
@@ -87,3 +89,11 @@ back_line k (Err r) = refl
 -- A refused call leaves the state.
 pub refused_state : (st : State) (c : Call) (a : Answer) (x : Refusal) → a ≡ (call_reply st.balance c).answer → a ≡ Err x → st ≡ state_after st (ask c)
 refused_state st c a x e q = ap (with_current st) (sym (refused_keeps st.balance c x (sym e ∙ q)).0)
+
+-- Going back, by what was decided.
+module _ (test whole : Bool) (st : State) (t : Tested test whole st) (n : Name) (d : Result ℕ Refusal) (e : d ≡ back_decision whole (place_in st n)) where
+  pub back_said : d ≡ back_decision (sound_state st) (place_in st n)
+  back_said = e ∙ ap (λ (u : Bool). back_decision u (place_in st n)) t.state
+
+  pub back_by_decision : (x : Result ℕ Refusal) → d ≡ x → back_as st x ≡ back_reply st n
+  back_by_decision x q = ap (back_as st) (sym q ∙ back_said) ∙ sym (back_decided st n)

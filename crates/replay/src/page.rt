@@ -6,6 +6,7 @@ ghost use Rattle.replay.specs.Page as pages;
 use crate::Replayed;
 use model::Balance;
 use planning::State;
+use planning::decision::decide_back;
 use register::decision::decide;
 use register::outcome::perform;
 use report::{CallLine, Outcome, ROOM};
@@ -36,7 +37,8 @@ fn replayed(
 }
 
 // The replies to at most so many records from an offset on, the first of them at place `first` among the records of its journal. The
-// current balance stands apart from what is kept: within the state each accepted call would copy it once more.
+// current balance stands apart from what is kept, and is not lent: otherwise each accepted call copies it once more. The count is cast by
+// `as u64`, since std has no `From` of a `usize` for `u64`.
 fn replies(
     state: State,
     s: &[u8],
@@ -76,8 +78,13 @@ fn replies(
             }
             RecordAt::Returns { to } => {
                 let name = requests::name_at(s, next + 2);
-                let answer = planning::back_apart(&kept, &mut balance, whole, name);
-                (listing::answered(answer, Outcome::Back), to)
+                match decide_back(&kept, whole, name) {
+                    Ok(place) => {
+                        balance = kept.kept[place].balance;
+                        (Outcome::Back, to)
+                    }
+                    Err(refusal) => (listing::refused(refusal), to),
+                }
             }
         };
         CallLine {
