@@ -4,21 +4,15 @@ use Rattle.std.specs.Option.{is_some}
 use Prim.Native.Nat.{ℕ}
 use mathlib.Core.Path.{◌≡◌, sym, ap, ◌∙◌}
 use mathlib.Core.Logic.{◌↔◌}
-use mathlib.Core.Bool.{Bool, true, false, not, true≢false}
+use mathlib.Core.Bool.{Bool, true, false, not}
 use mathlib.Core.List.{List}
-use lib.Dec.{eqb}
-use lib.ListN.{length, get_or}
-use lib.Seq.{ext_get_or}
-use native.Mathlib.Omega.{arith}
-use borrow.Author.Tests.{eq-eqb, eqb-true}
 use Rattle.std.specs.Cmp.Lexicographic.{bytes_decides}
 use Rattle.std.proofs.lemmas.Cmp.{nat_list_eq_equiv}
 use Rattle.laws.specs.Sum.{every}
-use Rattle.laws.proofs.Cases.{by_bool}
-use Rattle.laws.proofs.Every.{every_each, each_every, every_fails}
+use Rattle.laws.proofs.Every.{each_every, every_fails}
 use Rattle.river.proofs.Firsts.{nothing_passed, at_first}
 use Rattle.planning.specs.declared.Name.{Name}
-use Rattle.planning.specs.Names.{name_length, same_name, place_of}
+use Rattle.planning.specs.Names.{same_name, place_of}
 
 -- A name is the same as itself; names that are the same are so either way round, and through a third.
 pub same_self : (a : Name) → same_name a a ≡ true
