@@ -159,15 +159,15 @@ fn call_lines(s: &[u8], from: usize, balance: Balance, page: &mut Page) -> Ran
             CallAt::Asks { call, to } => {
                 let answer = decide(b, true, call);
                 let outcome = called(call, answer, b.given);
+                at = to;
+                if let Ok(()) = answer {
+                    b = perform(b, call);
+                }
                 CallLine {
                     call: k as u64 + 1,
                     outcome,
                 }
                 .put(page);
-                at = to;
-                if let Ok(()) = answer {
-                    b = perform(b, call);
-                }
             }
         }
     }

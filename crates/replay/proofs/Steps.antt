@@ -26,9 +26,9 @@ use Rattle.planning.proofs.Replying.{standing, back_faulty}
 use Rattle.planning.proofs.Promises.{keep_keeps, back_keeps, keep_stays, back_stays}
 use Rattle.requests.specs.Requests.{ask, keep, back, state_after}
 use Rattle.report.specs.Calls.{outcome_line}
-use Rattle.report.specs.declared.Outcome.TheVariants.{Kept, Back}
+use Rattle.report.specs.declared.Outcome.TheVariants.{Kept}
 use Rattle.listing.specs.Outcomes.{answered}
-use Rattle.replay.specs.Page.{kept_text, back_text}
+use Rattle.replay.specs.Page.{kept_text}
 
 -- What holds of the state in the loop beside its replies: what the two tests for 0 gave still holds, and its array is whole.
 pub record Tested (test whole : Bool) (st : State) : Type 0 where
@@ -77,14 +77,10 @@ module _ (test whole : Bool) (st : State) (t : Tested test whole st) (next : Sta
         sized = record { kept = ap (λ (x : State). length x.kept) e ∙ back_stays st n ∙ t.sized.kept };
       }
 
--- The line of what a keeping came to, and of what a return came to, by its answer.
+-- The line of what a keeping came to, by its answer.
 pub kept_line : (k : ℕ) (a : Answer) → outcome_line k (answered a Kept) ≡ kept_text k a
 kept_line k (Ok u) = refl
 kept_line k (Err r) = refl
-
-pub back_line : (k : ℕ) (a : Answer) → outcome_line k (answered a Back) ≡ back_text k a
-back_line k (Ok u) = refl
-back_line k (Err r) = refl
 
 -- A refused call leaves the state.
 pub refused_state : (st : State) (c : Call) (a : Answer) (x : Refusal) → a ≡ (call_reply st.balance c).answer → a ≡ Err x → st ≡ state_after st (ask c)
