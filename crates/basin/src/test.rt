@@ -2,12 +2,14 @@
 ghost use Rattle.std.specs.Prelude.{◌≡◌, ◌&&◌, ◌≤◌, leb, take, is_some, IfSome};
 ghost use Rattle.model.specs.View.{view_of};
 ghost use Rattle.model.specs.Limits.{unit_limit, aquifer_limit, title_limit};
+ghost use Rattle.river.specs.Passes.{Flows};
+ghost use Rattle.river.specs.Units.{units_of};
 ghost use Rattle.basin.specs.Sound as sounds;
 
 use crate::cover::{aquifers_hold, units_hold};
 use crate::places::title_sound;
 use model::{Aquifer, Balance, Place, Unit};
-use river::{Routed, Tree};
+use river::{Amounts, Tree};
 use titles::Sums;
 
 // The counts are within their limits.
@@ -66,10 +68,10 @@ fn flowing<'a>(n: usize, gained: &'a [u64; Balance::UNITS], lost: &'a [u64; Bala
     true
 }
 
-// The test for 0: the tree of the units with its amounts, where the balance is sound.
-pub fn tested(b: &Balance) -> Option<Routed<'_>>
-    ensures value { is_some result ≡ sounds.sound (view_of b.now) }
-    ensures units { IfSome result (λ units. units ≡ take b.now.unit_count b.now.units) }
+// The test for 0: what the forward pass gives of the units, where the balance is sound.
+pub fn tested(b: Balance) -> Option<Amounts>
+    ensures value { is_some result ≡ sounds.sound (view_of b) }
+    ensures amounts { IfSome result (Flows (units_of (take b.unit_count b.units))) }
 {
     let n = b.unit_count;
     let m = b.aquifer_count;
@@ -83,17 +85,17 @@ pub fn tested(b: &Balance) -> Option<Routed<'_>>
     if !entries_hold(units, n, aquifers, m, titles, given) {
         return None;
     }
-    let routed = Tree::new(&b.units[..n]).routed();
-    let amounts = routed.amounts();
+    let mut amounts = Amounts::none();
+    amounts.flow(&Tree::new(&units[..n]));
     if !flowing(n, &amounts.gained, &amounts.lost) {
         return None;
     }
-    Some(routed)
+    Some(amounts)
 }
 
 // A balance is sound if it has none of the faults for which every call first gives 0.
 pub fn sound(b: Balance) -> bool
     ensures { result ≡ sounds.sound (view_of b) }
 {
-    tested(&b).is_some()
+    tested(b).is_some()
 }
