@@ -9,6 +9,7 @@ use crate::Figures;
 use crate::test::tested;
 use figures::{AquiferFigures, UnitFigures};
 use model::{Balance, Refusal};
+use river::Tree;
 
 // 0 in every place for units.
 fn no_units() -> [UnitFigures; Balance::UNITS]
@@ -28,17 +29,18 @@ fn no_aquifers() -> [AquiferFigures; Balance::AQUIFERS]
 pub fn figures(b: Balance) -> Figures
     ensures { result ≡ replies.figures_reply (view_of b) }
 {
-    let Some(routed) = tested(&b) else {
+    let Some(amounts) = tested(&b) else {
         return Figures {
             answer: Err(Refusal::Unsound),
             units: no_units(),
             aquifers: no_aquifers(),
         };
     };
+    let units = &b.units[..b.unit_count];
     let aquifers = &b.aquifers[..b.aquifer_count];
     Figures {
         answer: Ok(()),
-        units: figures::unit_figures(&routed),
+        units: figures::unit_figures(&Tree::new(units), &amounts),
         aquifers: figures::aquifer_figures(aquifers),
     }
 }

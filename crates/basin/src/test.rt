@@ -2,12 +2,14 @@
 ghost use Rattle.std.specs.Prelude.{◌≡◌, ◌&&◌, ◌≤◌, leb, take, true, is_some, IfSome};
 ghost use Rattle.model.specs.View.{view_of};
 ghost use Rattle.model.specs.Limits.{unit_limit, aquifer_limit, title_limit};
+ghost use Rattle.river.specs.Passes.{Flows};
+ghost use Rattle.river.specs.Units.{units_of};
 ghost use Rattle.basin.specs.Sound as sounds;
 
 use crate::cover::{aquifers_hold, units_hold};
 use crate::places::title_sound;
 use model::{Balance, Place};
-use river::{Amounts, Routed, Tree};
+use river::{Amounts, Tree};
 use titles::Sums;
 
 // The counts are within their limits.
@@ -44,10 +46,10 @@ fn flowing(amounts: &Amounts, n: usize) -> bool
     (0..n).all(|j| amounts.lost[j] <= amounts.gained[j])
 }
 
-// The test for 0: the tree of the units with its amounts, where the balance is sound.
-pub fn tested(b: &Balance) -> Option<Routed<'_>>
+// The test for 0: what the forward pass gives of the units, where the balance is sound.
+pub fn tested(b: &Balance) -> Option<Amounts>
     ensures value { is_some result ≡ sounds.sound (view_of b.now) }
-    ensures units { IfSome result (λ units. units ≡ take b.now.unit_count b.now.units) }
+    ensures amounts { IfSome result (Flows (units_of (take b.now.unit_count b.now.units))) }
 {
     let n = b.unit_count;
     if !counts_sound(n, b.aquifer_count, b.given) {
@@ -56,12 +58,12 @@ pub fn tested(b: &Balance) -> Option<Routed<'_>>
     if !entries_hold(b) {
         return None;
     }
-    let routed = Tree::new(&b.units[..n]).routed();
-    let amounts = routed.amounts();
-    if !flowing(amounts, n) {
+    let mut amounts = Amounts::none();
+    amounts.flow(&Tree::new(&b.units[..n]));
+    if !flowing(&amounts, n) {
         return None;
     }
-    Some(routed)
+    Some(amounts)
 }
 
 // A balance is sound if it has none of the faults for which every call first gives 0.

@@ -2,6 +2,7 @@
 ghost use Rattle.std.specs.Prelude.{◌≡◌, ◌≤◌};
 ghost use Rattle.laws.specs.Signed.{above, below};
 ghost use Rattle.model.specs.Limits.{term_limit};
+ghost use Rattle.river.specs.Passes.{Flows};
 ghost use Rattle.river.specs.Units.{units_of};
 ghost use Rattle.river.specs.Limits.{gathered_limit};
 ghost use Rattle.figures.specs.Figures as figures;
@@ -9,7 +10,7 @@ ghost use Rattle.figures.specs.Figures.{figures_from, aquifers_of};
 
 use crate::{AquiferFigures, UnitFigures};
 use model::{Aquifer, Balance};
-use river::{Routed, Split, Tree, contribution};
+use river::{Amounts, Split, Tree, contribution};
 
 // A unit's figures from what it gathers, and from what is committed and arrives there.
 fn of_unit(gained: u64, lost: u64, split: &Split) -> UnitFigures
@@ -26,11 +27,11 @@ fn of_unit(gained: u64, lost: u64, split: &Split) -> UnitFigures
 
 // The figures of each unit, from what the forward pass has left. Backward over the units: an outlet's committed volume is its commitment,
 // another unit's is its share of the demand below.
-pub fn unit_figures(routed: &Routed) -> [UnitFigures; Balance::UNITS]
-    ensures { result ≡ figures.all_unit_figures (units_of routed.now) }
+pub fn unit_figures(tree: &Tree, amounts: &Amounts) -> [UnitFigures; Balance::UNITS]
+    requires { Flows (units_of tree.now) amounts.now }
+    ensures { result ≡ figures.all_unit_figures (units_of tree.now) }
 {
-    let units = routed.units();
-    let amounts = routed.amounts();
+    let units = tree.units();
     let mut all = [UnitFigures::default(); Balance::UNITS];
     for i in (0..units.len()).rev() {
         let unit = &units[i];
@@ -60,7 +61,9 @@ pub fn unit_figures(routed: &Routed) -> [UnitFigures; Balance::UNITS]
 pub fn of_units(tree: &Tree) -> [UnitFigures; Balance::UNITS]
     ensures { result ≡ figures.all_unit_figures (units_of tree.now) }
 {
-    unit_figures(&tree.routed())
+    let mut amounts = Amounts::none();
+    amounts.flow(tree);
+    unit_figures(tree, &amounts)
 }
 
 // An aquifer's recharge and availability, from what it gains and what it loses.

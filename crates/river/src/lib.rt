@@ -6,6 +6,6 @@ mod reserve;
 mod search;
 mod tree;
 
-pub use flow::{Amounts, Routed};
+pub use flow::Amounts;
 pub use reserve::{Split, contribution};
 pub use tree::Tree;

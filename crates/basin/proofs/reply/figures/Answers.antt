@@ -7,7 +7,7 @@ use native.Mathlib.Omega.{arith}
 use mathlib.Core.Bool.{true}
 use Rattle.model.specs.View.{view_of}
 use Rattle.river.specs.Units.{units_of}
-use Rattle.river.proofs.Units.{SameUnits, counted_units}
+use Rattle.river.proofs.Units.{SameUnits, counted_units, ready_same}
 use Rattle.model.specs.declared.Unit.{Unit}
 use Rattle.figures.specs.Figures.{all_unit_figures}
 use Rattle.figures.proofs.Units.{figures_same}
@@ -31,9 +31,20 @@ same c = counted_units (view_of c.args.b) c.args.b.units (omega (arith, (sound_r
 enough : (c : In-Some) → c.args.b.aquifer_count ≤ length c.args.b.aquifers
 enough c = omega (arith, (sound_wells_ready _ (is-sound c)).few)
 
+pub shared_ref_as_front-units : goal.shared_ref_as_front-units
+shared_ref_as_front-units c = omega (arith, (sound_ready _ (is-sound (goal.at.shared_ref_as_front-units c).In-Some)).few)
+
 pub shared_ref_as_front-aquifers : goal.shared_ref_as_front-aquifers
 shared_ref_as_front-aquifers c =
     omega (arith, (sound_wells_ready _ (is-sound (goal.at.shared_ref_as_front-aquifers c).In-Some)).few)
+
+pub new-requires : goal.new-requires
+new-requires c =
+    let here = (goal.at.new-requires c).In-Some in
+    ready_same _ _ (same here) (sound_ready _ (is-sound here))
+
+pub unit_figures-requires : goal.unit_figures-requires
+unit_figures-requires c = rw c.new.ensures c.in-Some.ensures.amounts
 
 pub aquifer_figures-requires : goal.aquifer_figures-requires
 aquifer_figures-requires c =
@@ -45,7 +56,7 @@ returns c =
     let here = (goal.at.returns c).In-Some in
     accepted_reply _ _ _ (is-sound here)
     (c.unit_figures.ensures
-    ∙ ap (λ (us : List Unit). all_unit_figures (units_of us)) c.in-Some.ensures.units
+    ∙ ap (λ (us : List Unit). all_unit_figures (units_of us)) c.new.ensures
     ∙ figures_same _ _ (same here) (sound_ready _ (is-sound here)))
     (c.aquifer_figures.ensures
     ∙ wells_same (view_of c.args.b) c.args.b.aquifers (enough here) (λ k h. refl) (sound_wells_ready _ (is-sound here)))

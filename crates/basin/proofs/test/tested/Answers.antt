@@ -18,12 +18,12 @@ use Rattle.basin.proofs.test.tested.Goals.{Else-not-counts_sound, Else-not-entri
 pub returns-then-not-counts_sound : goal.returns-then-not-counts_sound
 returns-then-not-counts_sound c = record {
   value = in_order_lem _ _ (stop_call _ _ _ c.counts_sound.ensures c.if-not-counts_sound.true);
-  units = tt;
+  amounts = tt;
 }
 
 -- The view of the balance, and that the counts are within their limits.
 abbrev counted : Else-not-counts_sound → View
-counted c = view_of c.args.b.now
+counted c = view_of c.args.b
 
 counts-hold : (c : Else-not-counts_sound) → sound_counts (counted c) ≡ true
 counts-hold c = call_holds c.counts_sound.ensures c.if-not-counts_sound.false
@@ -42,7 +42,7 @@ pub returns-then-not-entries_hold : goal.returns-then-not-entries_hold
 returns-then-not-entries_hold c = record {
   value = in_order_lem _ _
       (past-counts (goal.at.returns-then-not-entries_hold c).Else-not-counts_sound _ _ (stop_call _ _ _ c.entries_hold.ensures c.if-not-entries_hold.true));
-  units = tt;
+  amounts = tt;
 }
 
 -- The same where the entries hold.
@@ -67,12 +67,9 @@ new-requires c =
     let b = c.args.b.now in
     ready_same _ _ (same here (omega (arith, f.units, length-take b.unit_count b.units))) (ready here)
 
--- The routed tree is that of the counted units, and its amounts are those of its units.
-counted-units : (c : After-flowing) → c.routed-routed.result ≡ take c.args.b.now.unit_count c.args.b.now.units
-counted-units c = c.routed-routed.ensures ∙ c.new.ensures
-
-flows : (c : After-flowing) → Flows (units_of (take c.args.b.now.unit_count c.args.b.now.units)) c.amounts-amounts.result.now
-flows c = rw (counted-units c) at c.amounts-amounts.ensures
+-- The amounts are those of the counted units.
+flows : (c : After-flowing) → Flows (units_of (take c.args.b.now.unit_count c.args.b.now.units)) c.flow.new.self
+flows c = rw c.new.ensures at c.flow.ensures
 
 pub flowing-requires : goal.flowing-requires
 flowing-requires c = (ready (goal.at.flowing-requires c).Else-not-entries_hold).few
@@ -90,7 +87,7 @@ tested-flows c =
 
 pub returns-then-not-flowing : goal.returns-then-not-flowing
 returns-then-not-flowing c =
-    record { value = sym c.if-not-flowing.true ∙ tested-flows (goal.at.returns-then-not-flowing c).After-flowing; units = tt }
+    record { value = sym c.if-not-flowing.true ∙ tested-flows (goal.at.returns-then-not-flowing c).After-flowing; amounts = tt }
 
 pub returns : goal.returns
-returns c = record { value = sym c.if-not-flowing.false ∙ tested-flows (goal.at.returns c).After-flowing; units = counted-units (goal.at.returns c).After-flowing }
+returns c = record { value = sym c.if-not-flowing.false ∙ tested-flows (goal.at.returns c).After-flowing; amounts = flows (goal.at.returns c).After-flowing }

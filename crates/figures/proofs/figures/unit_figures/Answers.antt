@@ -27,8 +27,8 @@ loop-i-init c =
     rw e (filled_down_start 64 no_unit_figures _ _)
 
 -- The amounts are those of the units.
-flows : (c : In-loop-i) → Flows (units_of c.units-units.result.now) c.amounts-amounts.result.now
-flows c = rw c.units-units.ensures.units c.amounts-amounts.ensures
+flows : (c : In-loop-i) → Flows (units_of c.units-units.result.now) c.args.amounts.now
+flows c = rw c.units-units.ensures.units c.requires
 
 -- The unit that the turn passes.
 passed : (c : In-loop-i) → c.loop-i.i - 1 < length c.units-units.result.now
@@ -37,13 +37,13 @@ passed c = omega arith
 -- What the unit gets of the demand below it.
 shared : (c : After-contribution-own)
     → Share (units_of c.units-units.result.now) (c.loop-i.i - 1) c.in-Some.k (get_or c.loop-i.all c.in-Some.k no_unit_figures).committed
-    (get_or c.amounts-amounts.result.now.arrived c.in-Some.k 0) (get_or c.amounts-amounts.result.now.before (c.loop-i.i - 1) 0) c.contribution-own.result
+    (get_or c.args.amounts.now.arrived c.in-Some.k 0) (get_or c.args.amounts.now.before (c.loop-i.i - 1) 0) c.contribution-own.result
 shared c =
     let v = units_of c.units-units.result.now in
     let j = c.loop-i.i - 1 in
     let h = passed (goal.at.After-contribution-own c).In-loop-i in
     let b = onward_of v c.units-units.ensures.ready j c.in-Some.k h (omega (arith, c.from.ensures, c.in-Some.ensures)) in
-    share_of v c.units-units.ensures.ready c.amounts-amounts.result.now (flows (goal.at.After-contribution-own c).In-loop-i) j c.in-Some.k h b _ _
+    share_of v c.units-units.ensures.ready c.args.amounts.now (flows (goal.at.After-contribution-own c).In-loop-i) j c.in-Some.k h b _ _
     (ap (λ (x : UnitFigures). x.committed) (c.loop-i.invariant.done c.in-Some.k (omega (arith, b.later)) b.within)) c.contribution-own.ensures
 
 pub invariant_of-below : goal.invariant_of-below
@@ -64,7 +64,7 @@ volume_is c =
       | in-Some w ↦
           let k = w.in-Some.k in
           let b = onward_of v r j k h (omega (arith, c.from.ensures, w.in-Some.ensures)) in
-          let s = share_of v r c.amounts-amounts.result.now (flows (goal.at.Joined-checked_sub c).In-loop-i) j k h b _ _
+          let s = share_of v r c.args.amounts.now (flows (goal.at.Joined-checked_sub c).In-loop-i) j k h b _ _
           (ap (λ (x : UnitFigures). x.committed) (c.loop-i.invariant.done k (omega (arith, b.later)) b.within)) w.contribution-own.ensures in
           w.committed-is ∙ w.share_above-committed.ensures ∙ s.gets
     ]
