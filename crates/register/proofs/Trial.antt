@@ -1,9 +1,10 @@
 -- The arrays that a decision tries: with a title in, and without one. Assumes nothing.
 use Rattle.std.specs.Prelude.{Ok}
-use Prim.Native.Nat.{ℕ, pred, ◌≤◌, ◌<◌}
-use mathlib.Core.Path.{◌≡◌, ap, subst⁻¹, ◌∙◌}
+use Prim.Native.Nat.{ℕ, pred, ◌+◌, ◌≤◌, ◌<◌}
+use mathlib.Core.Path.{◌≡◌, refl, ap, subst⁻¹, ◌∙◌}
 use mathlib.Core.Bool.{true, false}
 use mathlib.Core.List.{List}
+use lib.ListN.{take}
 use lib.Signed.{non_neg}
 use native.Mathlib.Omega.{arith}
 use Rattle.laws.specs.Sum.{every}
@@ -12,56 +13,86 @@ use Rattle.model.specs.declared.Unit.{Unit}
 use Rattle.model.specs.declared.Aquifer.{Aquifer}
 use Rattle.model.specs.declared.Title.{Title}
 use Rattle.model.specs.declared.Balance.{Balance}
+use Rattle.model.specs.Entries.{place_of}
 use Rattle.model.specs.View.{View, view_of}
 use Rattle.river.specs.Flow.{Ready}
-use Rattle.river.specs.Units.{units_view}
-use Rattle.river.proofs.Units.{alone, flow_alone, ready_alone}
-use Rattle.figures.specs.Figures.{WellsReady, aquifers_view}
-use Rattle.figures.proofs.Aquifers.{wells_alone}
+use Rattle.river.specs.Units.{units_view, units_of}
+use Rattle.river.proofs.Units.{alone, flow_alone, ready_alone, counted_units, ready_same}
+use Rattle.figures.specs.Figures.{WellsReady, aquifers_of}
+use Rattle.figures.proofs.Aquifers.{wells_counted}
 use Rattle.basin.specs.Sound.{sound, flowing}
-use Rattle.basin.proofs.Soundness.{soundness}
-use Rattle.effect.specs.Granted.{granted, raised_units, raised_wells, posted, Sized, Named}
+use Rattle.basin.proofs.Soundness.{soundness, sound_ready}
+use Rattle.effect.specs.Granted.{granted, posted, Sized, Named}
 use Rattle.effect.specs.Cancelled.{title_of, cancelled, without_title, lowered_units, Takable}
-use Rattle.effect.proofs.Changing.{posted_view}
+use Rattle.effect.proofs.Changing.{posted_view, changed_sized}
 use Rattle.refusal.specs.Grant.{no_water}
-use Rattle.refusal.specs.Steps.{early_fault, entries_view}
+use Rattle.refusal.specs.Steps.{early_fault, entries_of}
 use Rattle.refusal.proofs.Granting.{granting_of, granting_named, granted_ready, granted_wells_ready}
-use Rattle.refusal.proofs.Giving.{water_untitled}
+use Rattle.refusal.proofs.Entries.{SameEntries, counted_entries, early_same, water_same}
 use Rattle.register.specs.Cancel.{number_in_force}
 use Rattle.register.proofs.Replies.{grantable_of}
 use Rattle.register.proofs.Cancelling.{in_force_of, takable_in_force, cancelled_view}
 use Rattle.register.proofs.Leaving.{cancelled_ready}
 
 -- Units and aquifers in which the water of a title can be looked at.
-abbrev pub Trial : Balance → Title → List Unit → List Aquifer → Type 0
-Trial b t us ws =
-    Ready (units_view us b.unit_count) × WellsReady (aquifers_view ws b.aquifer_count)
-    × Named (entries_view us b.unit_count ws b.aquifer_count 0) t
+abbrev pub Trial : List Unit → List Aquifer → Title → Type 0
+Trial us ws t = Ready (units_of us) × WellsReady (aquifers_of ws) × Named (entries_of us ws 0) t
 
-module _ (b : Balance) (t : Title) (us : List Unit) (ws : List Aquifer) (z : Sized b) (e : sound (view_of b) ≡ true)
-    (q : early_fault (view_of b) t ≡ Ok tt) (u : us ≡ raised_units t b.units) (w : ws ≡ raised_wells t b.aquifers) where
-  view : view_of (posted b t) ≡ granted (view_of b) t
-  view = posted_view b t z (grantable_of b t e q)
+-- The counted units and aquifers of a balance.
+abbrev pub counted_units_of : Balance → List Unit
+counted_units_of b = take b.unit_count b.units
 
-  -- The arrays with the title in can be worked out.
-  pub trial : Trial b t us ws
-  trial =
+abbrev pub counted_aquifers_of : Balance → List Aquifer
+counted_aquifers_of b = take b.aquifer_count b.aquifers
+
+-- They are the entries of its view, whatever number was given.
+module _ (b : Balance) (z : Sized b) (few : b.unit_count ≤ 64) (few_wells : b.aquifer_count ≤ 32) where
+  pub counted : (given : ℕ) → SameEntries (view_of b) (entries_of (counted_units_of b) (counted_aquifers_of b) given)
+  counted given =
+      counted_entries (view_of b) b.units b.aquifers given (omega (arith, z.units)) (omega (arith, z.aquifers)) (λ k h. refl) (λ k h. refl)
+
+  pub counted_ready : Ready (view_of b) → Ready (units_of (counted_units_of b))
+  counted_ready r = ready_same (view_of b) _ (counted_units (view_of b) b.units (omega (arith, z.units)) (λ k h. refl)) r
+
+  pub counted_wells_ready : WellsReady (view_of b) → WellsReady (aquifers_of (counted_aquifers_of b))
+  counted_wells_ready r = wells_counted (view_of b) b.aquifers (omega (arith, z.aquifers)) (λ k h. refl) r
+
+-- What a grant refuses early is asked of the counted units and aquifers.
+module _ (b : Balance) (t : Title) (z : Sized b) (e : sound (view_of b) ≡ true) where
+  pub early_counted : early_fault (entries_of (counted_units_of b) (counted_aquifers_of b) b.given) t ≡ early_fault (view_of b) t
+  early_counted =
       let s = soundness (view_of b) e in
-      let g = granting_of (view_of b) t q in
-      let v = view_of (posted b t) in
-      subst⁻¹ (λ (x : List Unit). Trial b t x ws) u
-      (subst⁻¹ (λ (y : List Aquifer). Trial b t (raised_units t b.units) y) w (
-        ready_alone v (subst⁻¹ Ready view (granted_ready (view_of b) t s g)),
-        wells_alone (posted b t) (subst⁻¹ WellsReady view (granted_wells_ready (view_of b) t s g)),
-        granting_named (view_of b) t g,
-      ))
+      early_same (view_of b) _ (counted b z s.few_units s.few_aquifers b.given) (sound_ready (view_of b) e) refl t
 
-  -- The water of a title, in the arrays with the title in.
-  pub trial_water : no_water (entries_view us b.unit_count ws b.aquifer_count 0) t ≡ no_water (granted (view_of b) t) t
-  trial_water =
-      (λ i. no_water (entries_view (u i) b.unit_count (w i) b.aquifer_count 0) t)
-      ∙ water_untitled (view_of (posted b t)) 0 t
-      ∙ ap (λ (x : View). no_water x t) view
+  -- The same with the title in.
+  module _ (q : early_fault (view_of b) t ≡ Ok tt) where
+    view : view_of (posted b t) ≡ granted (view_of b) t
+    view = posted_view b t z (grantable_of b t e q)
+
+    sized : Sized (posted b t)
+    sized = changed_sized ◌+◌ t b (b.given + 1) b.given (place_of t true) z
+
+    ready : Ready (view_of (posted b t))
+    ready = subst⁻¹ Ready view (granted_ready (view_of b) t (soundness (view_of b) e) (granting_of (view_of b) t q))
+
+    -- The counted units and aquifers can be worked out.
+    pub trial : Trial (counted_units_of (posted b t)) (counted_aquifers_of (posted b t)) t
+    trial =
+        let s = soundness (view_of b) e in
+        let g = granting_of (view_of b) t q in
+        let same = counted (posted b t) sized s.few_units s.few_aquifers 0 in (
+          counted_ready (posted b t) sized s.few_units s.few_aquifers ready,
+          counted_wells_ready (posted b t) sized s.few_units s.few_aquifers (subst⁻¹ WellsReady view (granted_wells_ready (view_of b) t s g)),
+          rw (same.units.count, same.count) (granting_named (view_of b) t g),
+        )
+
+    -- The water of the title, in them.
+    pub trial_water : no_water (entries_of (counted_units_of (posted b t)) (counted_aquifers_of (posted b t)) 0) t ≡ no_water (granted (view_of b) t) t
+    trial_water =
+        let s = soundness (view_of b) e in
+        water_same (view_of (posted b t)) _ (counted (posted b t) sized s.few_units s.few_aquifers 0) ready t
+        (granting_named (view_of b) t (granting_of (view_of b) t q))
+        ∙ ap (λ (x : View). no_water x t) view
 
 -- A number is in force, or it is not.
 module _ (v : View) (n : ℕ) where

@@ -12,13 +12,18 @@ use Rattle.river.specs.Flow.{Ready}
 use Rattle.river.specs.Units.{units_view}
 use Rattle.basin.specs.Sound.{flowing}
 use Rattle.basin.proofs.Soundness.{soundness}
+use Rattle.effect.specs.Granted.{Sized}
 use Rattle.effect.specs.Cancelled.{cancelled, lowered_units, UnitsHeld}
 use Rattle.register.specs.Cancel.{number_in_force}
 use Rattle.register.specs.declared.Reply.{Reply}
 use Rattle.register.proofs.Leaving.{reply_not_in_force, reply_needed, reply_cancelled}
 use Rattle.register.proofs.Trial.{no_number, not_given, out_of_force, is_in_force, takable, lowered_ready, lowered_flowing}
 use Rattle.register.proofs.decision.cancel_answer.Goals as goal
-use Rattle.register.proofs.decision.cancel_answer.Goals.{After-needed, Else-not-in_force}
+use Rattle.register.proofs.decision.cancel_answer.Goals.{Start, After-needed, Else-not-in_force}
+
+-- The arrays have their full length.
+sized : (c : Start) → Sized c.args.b
+sized c = record { units = omega arith; aquifers = omega arith; titles = omega arith }
 
 pub returns-then-k-eq0 : goal.returns-then-k-eq0
 returns-then-k-eq0 c =
@@ -63,7 +68,7 @@ needed-requires c =
     let q = stands (goal.at.needed-requires c).Else-not-in_force in
     subst⁻¹ (λ (k : ℕ). let t = (get_or b.titles k empty_place).title in
     UnitsHeld t b.units × Ready (units_view (lowered_units t b.units) b.unit_count)) (ap (λ (k : ℕ). k - 1) c.from-k.ensures ∙ sub-one n)
-    ((takable b n start.requires q).units, lowered_ready b n start.requires q c.sized.ensures)
+    ((takable b n start.requires q).units, lowered_ready b n start.requires q (sized (goal.at.needed-requires c).Start))
 
 -- What the flows without the title say of the balance.
 flows : (c : After-needed) → let start = c in
@@ -74,7 +79,7 @@ flows c =
     let n = start.args.number in
     c.needed.ensures
     ∙ ap (λ (k : ℕ). not (flowing (units_view (lowered_units (get_or b.titles k empty_place).title b.units) b.unit_count))) (ap (λ (k : ℕ). k - 1) c.from-k.ensures ∙ sub-one n)
-    ∙ ap not (lowered_flowing b n start.requires (stands (goal.at.After-needed c).Else-not-in_force) c.sized.ensures)
+    ∙ ap not (lowered_flowing b n start.requires (stands (goal.at.After-needed c).Else-not-in_force) (sized (goal.at.After-needed c).Start))
 
 pub returns-then-needed : goal.returns-then-needed
 returns-then-needed c =
