@@ -162,7 +162,7 @@ fn call_lines(s: &[u8], from: usize, balance: Balance, out: &mut [u8; ROOM]) -> 
                 };
             }
             CallAt::Asks { call, to } => {
-                let answer = register::decision::decide(b, true, call);
+                let answer = register::decision::decide(&b, true, call);
                 let number = register::outcome::number_of(b.given, call);
                 k += 1;
                 p = call_line(out, p, k, call, answer, number);

@@ -27,6 +27,7 @@ use Rattle.titles.specs.Adds.{return_of}
 use Rattle.river.specs.Flow.{Ready}
 use Rattle.river.proofs.Units.{SameUnits, counted_units}
 use Rattle.river.specs.Wells.{well_availability}
+use Rattle.figures.specs.Figures.{WellsReady, aquifers_of}
 use Rattle.figures.proofs.Units.{unit_figures_same}
 use Rattle.basin.specs.Sound.{exists}
 use Rattle.basin.proofs.Soundness.{Exists, number_exists}
@@ -53,6 +54,16 @@ counted_entries v us ws given h g e f =
       units = record { count = s.count; unit = s.unit };
       count = length-take-le v.aquifers ws g;
       aquifer = λ k l. get_or-take v.aquifers ws k empty_aquifer l ∙ sym (f k l);
+    }
+
+-- The aquifers of one can be worked out where those of the other can.
+pub entries_wells_ready : (v : View) (us : List Unit) (ws : List Aquifer) (given : ℕ) → SameEntries v (entries_of us ws given) → WellsReady v
+    → WellsReady (aquifers_of ws)
+entries_wells_ready v us ws given s r =
+    record {
+      few = omega (arith, s.count, r.few);
+      rises = λ k h. rw (s.aquifer k (omega (arith, s.count))) (r.rises k (omega (arith, s.count)));
+      falls = λ k h. rw (s.aquifer k (omega (arith, s.count))) (r.falls k (omega (arith, s.count)));
     }
 
 -- A title that is not missing names what is there.

@@ -1,34 +1,35 @@
 -- The arrays that a decision tries: with a title in, and without one. Assumes nothing.
 use Rattle.std.specs.Prelude.{Ok}
 use Prim.Native.Nat.{ℕ, pred, ◌+◌, ◌≤◌, ◌<◌}
-use mathlib.Core.Path.{◌≡◌, refl, ap, subst⁻¹, ◌∙◌}
+use mathlib.Core.Path.{◌≡◌, refl, sym, ap, subst⁻¹, ◌∙◌}
 use mathlib.Core.Bool.{true, false}
 use mathlib.Core.List.{List}
-use lib.ListN.{take}
+use lib.ListN.{length, take}
 use lib.Signed.{non_neg}
 use native.Mathlib.Omega.{arith}
 use Rattle.laws.specs.Sum.{every}
+use Rattle.laws.proofs.Arrays.{length_indexed}
 use Rattle.laws.proofs.Chain.{t_and, f_and, f_and_on, t_lt, f_lt, t_le, f_le}
 use Rattle.model.specs.declared.Unit.{Unit}
 use Rattle.model.specs.declared.Aquifer.{Aquifer}
 use Rattle.model.specs.declared.Title.{Title}
 use Rattle.model.specs.declared.Balance.{Balance}
-use Rattle.model.specs.Entries.{place_of}
 use Rattle.model.specs.View.{View, view_of}
 use Rattle.river.specs.Flow.{Ready}
 use Rattle.river.specs.Units.{units_view, units_of}
-use Rattle.river.proofs.Units.{alone, flow_alone, ready_alone, counted_units, ready_same}
+use Rattle.river.proofs.Units.{alone, flow_alone, ready_alone, ready_same}
 use Rattle.figures.specs.Figures.{WellsReady, aquifers_of}
-use Rattle.figures.proofs.Aquifers.{wells_counted}
 use Rattle.basin.specs.Sound.{sound, flowing}
-use Rattle.basin.proofs.Soundness.{soundness, sound_ready}
-use Rattle.effect.specs.Granted.{granted, posted, Sized, Named}
+use Rattle.basin.proofs.Soundness.{soundness}
+use Rattle.titles.specs.Adds.{return_of}
+use Rattle.effect.specs.Effect.{changed_unit, changed_aquifer}
+use Rattle.effect.specs.Granted.{granted, raised_units, raised_wells, lacking, Sized, Named}
 use Rattle.effect.specs.Cancelled.{title_of, cancelled, without_title, lowered_units, Takable}
-use Rattle.effect.proofs.Changing.{posted_view, changed_sized}
+use Rattle.effect.proofs.Changing.{unit_changed, aquifer_changed, plus_none}
 use Rattle.refusal.specs.Grant.{no_water}
 use Rattle.refusal.specs.Steps.{early_fault, entries_of}
 use Rattle.refusal.proofs.Granting.{granting_of, granting_named, granted_ready, granted_wells_ready}
-use Rattle.refusal.proofs.Entries.{SameEntries, counted_entries, early_same, water_same}
+use Rattle.refusal.proofs.Entries.{SameEntries, counted_entries, entries_wells_ready, early_same, water_same}
 use Rattle.register.specs.Cancel.{number_in_force}
 use Rattle.register.proofs.Replies.{grantable_of}
 use Rattle.register.proofs.Cancelling.{in_force_of, takable_in_force, cancelled_view}
@@ -38,61 +39,62 @@ use Rattle.register.proofs.Leaving.{cancelled_ready}
 abbrev pub Trial : List Unit → List Aquifer → Title → Type 0
 Trial us ws t = Ready (units_of us) × WellsReady (aquifers_of ws) × Named (entries_of us ws 0) t
 
--- The counted units and aquifers of a balance.
-abbrev pub counted_units_of : Balance → List Unit
-counted_units_of b = take b.unit_count b.units
+-- The counted units and aquifers of a balance are the entries of its view.
+module _ (b : Balance) (units : b.unit_count ≤ length b.units) (wells : b.aquifer_count ≤ length b.aquifers) (r : Ready (view_of b)) where
+  counted : SameEntries (view_of b) (entries_of (take b.unit_count b.units) (take b.aquifer_count b.aquifers) b.given)
+  counted = counted_entries (view_of b) b.units b.aquifers b.given units wells (λ k h. refl) (λ k h. refl)
 
-abbrev pub counted_aquifers_of : Balance → List Aquifer
-counted_aquifers_of b = take b.aquifer_count b.aquifers
+  pub counted_ready : Ready (units_of (take b.unit_count b.units))
+  counted_ready = ready_same (view_of b) _ (record { count = counted.units.count; unit = counted.units.unit }) r
 
--- They are the entries of its view, whatever number was given.
-module _ (b : Balance) (z : Sized b) (few : b.unit_count ≤ 64) (few_wells : b.aquifer_count ≤ 32) where
-  pub counted : (given : ℕ) → SameEntries (view_of b) (entries_of (counted_units_of b) (counted_aquifers_of b) given)
-  counted given =
-      counted_entries (view_of b) b.units b.aquifers given (omega (arith, z.units)) (omega (arith, z.aquifers)) (λ k h. refl) (λ k h. refl)
+  -- What a grant refuses early is asked of them.
+  pub early_counted : (t : Title)
+      → early_fault (entries_of (take b.unit_count b.units) (take b.aquifer_count b.aquifers) b.given) t ≡ early_fault (view_of b) t
+  early_counted t = early_same (view_of b) _ counted r refl t
 
-  pub counted_ready : Ready (view_of b) → Ready (units_of (counted_units_of b))
-  counted_ready r = ready_same (view_of b) _ (counted_units (view_of b) b.units (omega (arith, z.units)) (λ k h. refl)) r
+-- As many units and aquifers are there with a title in.
+pub length_raised : (t : Title) (us : List Unit) → length (raised_units t us) ≡ length us
+length_raised t us = length_indexed (changed_unit ◌+◌ t (return_of t)) us
 
-  pub counted_wells_ready : WellsReady (view_of b) → WellsReady (aquifers_of (counted_aquifers_of b))
-  counted_wells_ready r = wells_counted (view_of b) b.aquifers (omega (arith, z.aquifers)) (λ k h. refl) r
+pub length_drawn : (t : Title) (ws : List Aquifer) → length (raised_wells t ws) ≡ length ws
+length_drawn t ws = length_indexed (changed_aquifer ◌+◌ t (return_of t)) ws
 
--- What a grant refuses early is asked of the counted units and aquifers.
-module _ (b : Balance) (t : Title) (z : Sized b) (e : sound (view_of b) ≡ true) where
-  pub early_counted : early_fault (entries_of (counted_units_of b) (counted_aquifers_of b) b.given) t ≡ early_fault (view_of b) t
-  early_counted =
+-- The counted units and aquifers with a title in that is not refused early.
+module _ (b : Balance) (t : Title) (units : length b.units ≡ 64) (wells : length b.aquifers ≡ 32) (e : sound (view_of b) ≡ true)
+    (q : early_fault (view_of b) t ≡ Ok tt) where
+  abbrev raised : List Unit
+  raised = take b.unit_count (raised_units t b.units)
+
+  abbrev drawn : List Aquifer
+  drawn = take b.aquifer_count (raised_wells t b.aquifers)
+
+  same : SameEntries (granted (view_of b) t) (entries_of raised drawn 0)
+  same =
       let s = soundness (view_of b) e in
-      early_same (view_of b) _ (counted b z s.few_units s.few_aquifers b.given) (sound_ready (view_of b) e) refl t
+      let g = grantable_of b t e q in
+      counted_entries (granted (view_of b) t) (raised_units t b.units) (raised_wells t b.aquifers) 0
+      (omega (arith, s.few_units, length_raised t b.units))
+      (omega (arith, s.few_aquifers, length_drawn t b.aquifers))
+      (λ k h. sym (unit_changed ◌+◌ plus_none lacking t b.units units g.units k))
+      (λ k h. sym (aquifer_changed ◌+◌ plus_none lacking t b.aquifers wells g.wells k))
 
-  -- The same with the title in.
-  module _ (q : early_fault (view_of b) t ≡ Ok tt) where
-    view : view_of (posted b t) ≡ granted (view_of b) t
-    view = posted_view b t z (grantable_of b t e q)
+  ready : Ready (granted (view_of b) t)
+  ready = granted_ready (view_of b) t (soundness (view_of b) e) (granting_of (view_of b) t q)
 
-    sized : Sized (posted b t)
-    sized = changed_sized ◌+◌ t b (b.given + 1) b.given (place_of t true) z
+  named : Named (granted (view_of b) t) t
+  named = granting_named (view_of b) t (granting_of (view_of b) t q)
 
-    ready : Ready (view_of (posted b t))
-    ready = subst⁻¹ Ready view (granted_ready (view_of b) t (soundness (view_of b) e) (granting_of (view_of b) t q))
+  -- They can be worked out.
+  pub trial : Trial raised drawn t
+  trial = (
+    ready_same (granted (view_of b) t) _ (record { count = same.units.count; unit = same.units.unit }) ready,
+    entries_wells_ready _ raised drawn 0 same (granted_wells_ready (view_of b) t (soundness (view_of b) e) (granting_of (view_of b) t q)),
+    rw (same.units.count, same.count) named,
+  )
 
-    -- The counted units and aquifers can be worked out.
-    pub trial : Trial (counted_units_of (posted b t)) (counted_aquifers_of (posted b t)) t
-    trial =
-        let s = soundness (view_of b) e in
-        let g = granting_of (view_of b) t q in
-        let same = counted (posted b t) sized s.few_units s.few_aquifers 0 in (
-          counted_ready (posted b t) sized s.few_units s.few_aquifers ready,
-          counted_wells_ready (posted b t) sized s.few_units s.few_aquifers (subst⁻¹ WellsReady view (granted_wells_ready (view_of b) t s g)),
-          rw (same.units.count, same.count) (granting_named (view_of b) t g),
-        )
-
-    -- The water of the title, in them.
-    pub trial_water : no_water (entries_of (counted_units_of (posted b t)) (counted_aquifers_of (posted b t)) 0) t ≡ no_water (granted (view_of b) t) t
-    trial_water =
-        let s = soundness (view_of b) e in
-        water_same (view_of (posted b t)) _ (counted (posted b t) sized s.few_units s.few_aquifers 0) ready t
-        (granting_named (view_of b) t (granting_of (view_of b) t q))
-        ∙ ap (λ (x : View). no_water x t) view
+  -- The water of the title, in them.
+  pub trial_water : no_water (entries_of raised drawn 0) t ≡ no_water (granted (view_of b) t) t
+  trial_water = water_same (granted (view_of b) t) _ same ready t named
 
 -- A number is in force, or it is not.
 module _ (v : View) (n : ℕ) where

@@ -12,9 +12,9 @@ ghost use Rattle.register.specs.Calls as calls;
 use model::{Answer, Balance, Call, Refusal, Title};
 
 // The answer to a grant on a sound balance: 12 to 16 and 18, then 17 with the title in.
-fn grant_answer(b: Balance, t: Title) -> Answer
-    requires { sounds.sound (view_of b) ≡ true }
-    ensures { result ≡ (replies.grant_reply b t).answer }
+fn grant_answer(b: &Balance, t: Title) -> Answer
+    requires { sounds.sound (view_of b.now) ≡ true }
+    ensures { result ≡ (replies.grant_reply b.now t).answer }
 {
     let n = b.unit_count;
     let m = b.aquifer_count;
@@ -38,9 +38,9 @@ fn needed(b: &Balance, t: Title) -> bool
 }
 
 // The answer to a cancellation on a sound balance: 19 where the number was not given or its place is not in force, then 20.
-fn cancel_answer(b: Balance, number: u16) -> Answer
-    requires { sounds.sound (view_of b) ≡ true }
-    ensures { result ≡ (cancels.cancel_reply b number).answer }
+fn cancel_answer(b: &Balance, number: u16) -> Answer
+    requires { sounds.sound (view_of b.now) ≡ true }
+    ensures { result ≡ (cancels.cancel_reply b.now number).answer }
 {
     let k = usize::from(number);
     if k == 0 {
@@ -54,7 +54,7 @@ fn cancel_answer(b: Balance, number: u16) -> Answer
     if !in_force {
         return Err(Refusal::NotInForce);
     }
-    if needed(&b, place.title) {
+    if needed(b, place.title) {
         return Err(Refusal::FlowNeeded);
     }
     Ok(())
@@ -62,9 +62,9 @@ fn cancel_answer(b: Balance, number: u16) -> Answer
 
 // The answer to a call on a balance that was tested for 0: `sound` says what the test gave. The two are no struct with an invariant: every
 // accepted call changes the balance, so that the struct would be taken apart and made again at each, to keep what `perform` promises.
-pub fn decide(b: Balance, sound: bool, c: Call) -> Answer
-    requires { sound ≡ sounds.sound (view_of b) }
-    ensures { result ≡ (calls.call_reply b c).answer }
+pub fn decide(b: &Balance, sound: bool, c: Call) -> Answer
+    requires { sound ≡ sounds.sound (view_of b.now) }
+    ensures { result ≡ (calls.call_reply b.now c).answer }
 {
     if !sound {
         return Err(Refusal::Unsound);

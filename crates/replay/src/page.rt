@@ -99,7 +99,7 @@ fn replies(
                 };
             }
             RecordAt::Calls { call, to } => {
-                let answer = decide(st.balance, sound, call);
+                let answer = decide(&st.balance, sound, call);
                 length = put_call(out, length, k, call, answer, st.balance.given);
                 if let Ok(()) = answer {
                     st.balance = perform(st.balance, call);
