@@ -32,9 +32,6 @@ both_hold s t e f = rw e f
 pub first_fails : (s t : Bool) → s ≡ false → (s && t) ≡ false
 first_fails s t e = rw e
 
-pub second_fails : (s t : Bool) → s ≡ true → t ≡ false → (s && t) ≡ false
-second_fails s t e f = rw e f
-
 -- One test of a disjunction holds.
 pub either : (s t : Bool) → (s || t) ≡ true → (s ≡ true) ⊎ (t ≡ true)
 either true t e = inl refl

@@ -1,8 +1,8 @@
--- What `all` answers over the numbers below one: whether the test holds at every place. Assumes nothing.
+-- What `all` and `any` answer over the numbers below one: whether the test holds at every place, and at some place. Assumes nothing.
 use Prim.Native.Nat.{ℕ, zero, suc, ◌≤◌}
 use mathlib.Core.Path.{◌≡◌, refl, sym, ap, ◌∙◌}
-use mathlib.Core.Bool.{Bool, true, false, ◌&&◌}
-use mathlib.Core.List.{List}
+use mathlib.Core.Bool.{Bool, true, false, not, ◌&&◌, ◌||◌}
+use mathlib.Core.List.{List, [], ◌∷◌}
 use lib.ListN.{length, get_or, take}
 use lib.Seq.{take-length}
 use denote.Param.Members.{Mut}
@@ -12,11 +12,11 @@ use Rattle.std.proofs.iter.Yields.{nat_range_steps}
 use Rattle.std.specs.declared.option.Option.{Option}
 use Rattle.std.specs.Fn.{Called}
 use Rattle.std.specs.Iterator.{YieldsThen}
-use Rattle.std.specs.List.{list_all, range_with_len, FoldsTo}
+use Rattle.std.specs.List.{list_all, list_any, range_with_len, FoldsTo}
 use Rattle.std.specs.Option.{MatchOption}
 use Rattle.std.specs.declared.ops.Range.{Range}
 use Rattle.std.proofs.lemmas.Iterator.{YieldsList-from_range}
-use Rattle.std.proofs.lemmas.Iterator.Search.{all_from_yields_List}
+use Rattle.std.proofs.lemmas.Iterator.Search.{all_from_yields_List, any_from_yields_List}
 use Rattle.std.proofs.lemmas.List.Folds.{list_all_more}
 use Rattle.std.proofs.lemmas.List.FromFn.{length-range_with_len, get_or-range_with_len}
 use Rattle.laws.specs.Sum.{every}
@@ -49,3 +49,22 @@ pub every_from_all : {F : Type 0} {g : Mut F (ℕ × Unit {0}) Bool} {u : Range 
     → ((x : ℕ) (b : Bool) (q : F) → Called g f (x, tt) b q → (q ≡ f) × (b ≡ test x)) → r ≡ every n test
 every_from_all {u = u} test n f r ran answers =
     all_from_yields_List test u f r ran (YieldsList-from_range 0 n n refl (omega arith)) answers ∙ below_every test n
+
+-- A test holds of some element exactly where it does not fail of every one.
+some_not : (a b c : Bool) → b ≡ not c → (a || b) ≡ not (not a && c)
+some_not true b c e = refl
+some_not false b c e = e
+
+any_every : (t : ℕ → Bool) (xs : List ℕ) → list_any t xs ≡ not (list_all (λ x. not (t x)) xs)
+any_every t [] = refl
+any_every t (x ∷ xs) = some_not (t x) _ _ (any_every t xs)
+
+-- The answer of `any` on the numbers below n, by a closure that computes a test.
+pub some_from_any : {F : Type 0} {g : Mut F (ℕ × Unit {0}) Bool} {u : Range ℕ} (test : ℕ → Bool) (n : ℕ) (f : F) (r : Bool)
+    → (xs : List ℕ) × (o : Option ℕ) × (j : F) × YieldsThen nat_range_steps (record { start = 0; end = n }) xs o u
+    × FoldsTo (λ p x q. Called g p (x, tt) false q) f xs j × MatchOption o (r ≡ false) (λ x. (r ≡ true) × ((h : F) × Called g j (x, tt) true h))
+    → ((x : ℕ) (b : Bool) (q : F) → Called g f (x, tt) b q → (q ≡ f) × (b ≡ test x)) → r ≡ not (every n (λ k. not (test k)))
+some_from_any {u = u} test n f r ran answers =
+    any_from_yields_List test u f r ran (YieldsList-from_range 0 n n refl (omega arith)) answers
+    ∙ any_every test (range_with_len 0 n)
+    ∙ ap not (below_every (λ k. not (test k)) n)

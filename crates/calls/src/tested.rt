@@ -32,7 +32,7 @@ pub fn run_tested(s: &[u8], from: usize, balance: Balance, sound: bool) -> Ran
             }
             CallAt::Asks { call, to } => {
                 at = to;
-                match register::decision::decide(b, sound, call) {
+                match register::decision::decide(&b, sound, call) {
                     Ok(()) => b = register::outcome::perform(b, call),
                     Err(_) => {}
                 }

@@ -152,7 +152,7 @@ module _ (op : ℕ → ℕ → ℕ) (neutral : (e : ℕ) → op e 0 ≡ e) where
 
   -- The unit, and the aquifer, at an index of the changed arrays.
   module _ (left : ℕ → ℕ) (t : Title) where
-    unit_changed : (us : List Unit) → length us ≡ 64 → UnitArrayTakes left t us → (k : ℕ)
+    pub unit_changed : (us : List Unit) → length us ≡ 64 → UnitArrayTakes left t us → (k : ℕ)
         → get_or (changed_units op t (return_of t) us) k empty_unit ≡ changed_unit op t (return_of t) k (get_or us k empty_unit)
     unit_changed us l h k =
         let p = postings t (return_of t) in
@@ -164,7 +164,7 @@ module _ (op : ℕ → ℕ → ℕ) (neutral : (e : ℕ) → op e 0 ≡ e) where
         (takes_past left (λ j. (get_or us j empty_unit).returns) 64 p.returns h.returns k (omega arith) i))
         ∙ unchanged empty_unit)
 
-    aquifer_changed : (ws : List Aquifer) → length ws ≡ 32 → WellArrayTakes left t ws → (k : ℕ)
+    pub aquifer_changed : (ws : List Aquifer) → length ws ≡ 32 → WellArrayTakes left t ws → (k : ℕ)
         → get_or (changed_wells op t (return_of t) ws) k empty_aquifer ≡ changed_aquifer op t (return_of t) k (get_or ws k empty_aquifer)
     aquifer_changed ws l h k =
         get_or_indexed _ ws empty_aquifer k

@@ -157,7 +157,7 @@ fn call_lines(s: &[u8], from: usize, balance: Balance, page: &mut Page) -> Ran
                 };
             }
             CallAt::Asks { call, to } => {
-                let answer = decide(b, true, call);
+                let answer = decide(&b, true, call);
                 let outcome = called(call, answer, b.given);
                 at = to;
                 if let Ok(()) = answer {

@@ -1,5 +1,4 @@
 -- No water, by the unit or the aquifer that gives; and over the units of a view alone. Assumes nothing.
-use Rattle.std.specs.Prelude.{Ok}
 use Prim.Native.Nat.{ℕ, pred, ◌≤◌, ◌<◌}
 use mathlib.Core.Path.{◌≡◌, refl, sym, ap, ◌∙◌}
 use mathlib.Core.Bool.{Bool, not, ◌&&◌, ◌||◌}
@@ -11,18 +10,11 @@ use Rattle.model.specs.declared.Title.{Title}
 use Rattle.model.specs.declared.Title.TheVariants.{UnitWithdrawal, AquiferWithdrawal, UnitTransfer, AquiferTransfer, ReturningWithdrawal}
 use Rattle.model.specs.Fresh.{empty_place}
 use Rattle.model.specs.View.{View}
-use Rattle.river.specs.Flow.{Ready}
-use Rattle.river.proofs.Units.{alone, SameUnits}
-use Rattle.laws.proofs.Every.{every_same, both}
-use Rattle.reach.specs.Reach.{same_basin}
-use Rattle.basin.proofs.Soundness.{number_exists}
-use Rattle.model.proofs.Answers.{pass}
-use borrow.Author.Tests.{not-false}
-use Rattle.figures.proofs.Units.{unit_figures_alone, unit_figures_same}
-use Rattle.reach.proofs.Units.{outlet_alone, below_alone, outlet_units, below_units}
-use Rattle.basin.specs.Sound.{exists}
+use Rattle.river.proofs.Units.{alone}
+use Rattle.figures.proofs.Units.{unit_figures_alone}
+use Rattle.reach.proofs.Units.{outlet_alone, below_alone}
 use Rattle.effect.specs.Granted.{Named}
-use Rattle.refusal.specs.Grant.{in_deficit, wanting, dry, drained, no_water, downstream_transfer, overfull}
+use Rattle.refusal.specs.Grant.{in_deficit, dry, drained, no_water, downstream_transfer, overfull}
 use Rattle.refusal.specs.declared.Giver.TheVariants.{FromUnit, FromAquifer}
 use Rattle.refusal.specs.Steps.{giver, goes_down, missing_fault, then_answer, volume_fault, early_fault}
 use Rattle.model.specs.Answers.{refuse}
@@ -36,18 +28,6 @@ dry_alone v j = λ i.
 pub downstream_alone : (v : View) (g r : ℕ) → downstream_transfer (alone v) g r ≡ downstream_transfer v g r
 downstream_alone v g r = λ i. eqb g r || below_alone v (pred g) (pred r) i
 
--- So it is over views with the same units.
-module _ (v w : View) (s : SameUnits v w) (r : Ready v) where
-  pub dry_same : (j : ℕ) → j < v.units → dry w j ≡ dry v j
-  dry_same j h =
-      ap (λ (n : ℕ). not (every n (λ k. not (same_basin w j k && wanting w k)))) s.count
-      ∙ ap not
-      (every_same v.units _ _
-      (λ k g i. not (eqb (outlet_units v w s r k g i) (outlet_units v w s r j h i) && in_deficit (unit_figures_same v w s r k g i))))
-
-  pub downstream_same : (g t : ℕ) → pred g < v.units → downstream_transfer w g t ≡ downstream_transfer v g t
-  downstream_same g t h = ap (λ (b : Bool). eqb g t || b) (below_units v w s r (pred g) (pred t) h)
-
 -- Whether a transfer goes down is asked of the units alone.
 pub goes_down_alone : (v : View) (t : Title) → goes_down (alone v) t ≡ goes_down v t
 goes_down_alone v (UnitWithdrawal u r x) = refl
@@ -55,15 +35,6 @@ goes_down_alone v (AquiferWithdrawal a x) = refl
 goes_down_alone v (UnitTransfer g r x) = downstream_alone v g r
 goes_down_alone v (AquiferTransfer a u x) = refl
 goes_down_alone v (ReturningWithdrawal a u r x) = refl
-
-pub goes_down_same : (v w : View) → SameUnits v w → Ready v → (m : ℕ) (t : Title) → missing_fault v.units m t ≡ Ok tt → goes_down w t ≡ goes_down v t
-goes_down_same v w s r m (UnitWithdrawal u x y) e = refl
-goes_down_same v w s r m (AquiferWithdrawal a x) e = refl
-goes_down_same v w s r m (UnitTransfer g t x) e =
-    let n = number_exists v.units g (both (exists v.units g) _ (not-false _ (pass (not (exists v.units g && exists v.units t)) _ _ e).not)).0 in
-    downstream_same v w s r g t (omega (arith, n.positive, n.within))
-goes_down_same v w s r m (AquiferTransfer a u x) e = refl
-goes_down_same v w s r m (ReturningWithdrawal a u x y) e = refl
 
 -- A view without its titles, with so many numbers given.
 abbrev pub untitled : View → ℕ → View

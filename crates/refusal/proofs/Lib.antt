@@ -1,3 +1,3 @@
-pub mod Negative
 pub mod Granting
 pub mod Giving
+pub mod Entries

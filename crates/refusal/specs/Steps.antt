@@ -1,5 +1,5 @@
 -- The steps of a grant. Assumes nothing.
-use Rattle.std.specs.Prelude.{ℕ, Bool, false, not, ◌&&◌, List, [], eqb, leb, get_or, Ok, Err}
+use Rattle.std.specs.Prelude.{ℕ, Bool, false, not, ◌&&◌, List, [], eqb, leb, length, get_or, Ok, Err}
 use Rattle.laws.specs.Sum.{every}
 use Rattle.model.specs.declared.Refusal.TheVariants.{NoSuchPlace, NoSuchUse, BadVolume, NumbersGiven, EntryFull, ReceiverBelow}
 use Rattle.model.specs.declared.Unit.{Unit}
@@ -68,6 +68,10 @@ giving_aquifer (ReturningWithdrawal a u r x) = a
 -- The view of units and aquifers without titles, with so many title numbers given.
 abbrev pub entries_view : List Unit → ℕ → List Aquifer → ℕ → ℕ → View
 entries_view us n ws m given = parts_view us n ws m [] given
+
+-- The same of lists of which all count.
+abbrev pub entries_of : List Unit → List Aquifer → ℕ → View
+entries_of us ws given = entries_view us (length us) ws (length ws) given
 
 -- Some of n units drains to outlet o and has a negative flow or a negative availability, by their figures and their outlets.
 abbrev pub dry_by : List UnitFigures → List ℕ → ℕ → ℕ → Bool

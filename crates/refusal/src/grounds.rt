@@ -1,13 +1,12 @@
 // What a grant refuses before its water is looked at.
 ghost use Rattle.std.specs.Prelude.{◌≡◌, ◌≤◌, ◌<◌, ◌+◌, length};
 ghost use Rattle.model.specs.Answers.{accepted};
-ghost use Rattle.model.specs.Limits.{unit_limit, aquifer_limit};
+ghost use Rattle.model.specs.Limits.{aquifer_limit};
 ghost use Rattle.river.specs.Flow.{Ready};
-ghost use Rattle.river.specs.Units.{units_view, units_of};
-ghost use Rattle.basin.specs.Sound.{parts_view};
+ghost use Rattle.river.specs.Units.{units_of};
 ghost use Rattle.refusal.specs.Grant as grants;
 ghost use Rattle.refusal.specs.Steps as steps;
-ghost use Rattle.refusal.specs.Steps.{entries_view};
+ghost use Rattle.refusal.specs.Steps.{entries_of};
 
 use basin::places::{exists, is_volume};
 use model::{Answer, Aquifer, Balance, Refusal, Title, Unit};
@@ -47,17 +46,10 @@ fn past(entry: u32, more: u32) -> bool
     u64::from(entry) + u64::from(more) > u64::from(Balance::TERM)
 }
 
-// An entry that a title raises would pass 10,000,000. What the title names is there, of n units and m aquifers.
-fn overfull(
-    units: [Unit; Balance::UNITS],
-    n: usize,
-    aquifers: [Aquifer; Balance::AQUIFERS],
-    m: usize,
-    t: Title,
-) -> bool
-    requires few { (n ≤ unit_limit) × (m ≤ aquifer_limit) }
-    requires there { steps.missing_fault n m t ≡ accepted }
-    ensures { result ≡ grants.overfull (entries_view units n aquifers m 0) t }
+// An entry that a title raises would pass 10,000,000. What the title names is there.
+fn overfull(units: &[Unit], aquifers: &[Aquifer], t: Title) -> bool
+    requires { steps.missing_fault (length units.now) (length aquifers.now) t ≡ accepted }
+    ensures { result ≡ grants.overfull (entries_of units.now aquifers.now 0) t }
 {
     match t {
         Title::UnitWithdrawal {
@@ -65,7 +57,7 @@ fn overfull(
             usage,
             volume,
         } => {
-            let u = units[usize::from(unit) - 1];
+            let u = &units[usize::from(unit) - 1];
             past(u.extraction, volume) || past(u.returns, titles::returned(usage, volume))
         }
         Title::AquiferWithdrawal { aquifer, volume } => {
@@ -109,19 +101,13 @@ fn goes_down(tree: &Tree, m: usize, t: Title) -> bool
 }
 
 // What a grant refuses before its water is looked at, first match wins.
-pub fn early(
-    units: [Unit; Balance::UNITS],
-    n: usize,
-    aquifers: [Aquifer; Balance::AQUIFERS],
-    m: usize,
-    given: usize,
-    t: Title,
-) -> Answer
-    requires { Ready (units_view units n) × (m ≤ aquifer_limit) }
-    ensures { result ≡ steps.early_fault (entries_view units n aquifers m given) t }
+pub fn early(tree: &Tree, aquifers: &[Aquifer], given: usize, t: Title) -> Answer
+    requires { length aquifers.now ≤ aquifer_limit }
+    ensures { result ≡ steps.early_fault (entries_of tree.now aquifers.now given) t }
 {
-    missing(t, n, m)?;
-    if goes_down(&Tree::new(&units[..n]), m, t) {
+    let units = tree.units();
+    missing(t, units.len(), aquifers.len())?;
+    if goes_down(tree, aquifers.len(), t) {
         return Err(Refusal::ReceiverBelow);
     }
     if !is_volume(t.volume()) {
@@ -130,7 +116,7 @@ pub fn early(
     if Balance::TITLES <= given {
         return Err(Refusal::NumbersGiven);
     }
-    if overfull(units, n, aquifers, m, t) {
+    if overfull(units, aquifers, t) {
         return Err(Refusal::EntryFull);
     }
     Ok(())

@@ -2,19 +2,19 @@
 ghost use Rattle.std.specs.Prelude.{◌≡◌, not, ◌≤◌, ◌<◌, length};
 ghost use Rattle.std.specs.Int.Signed.{non_neg};
 ghost use Rattle.laws.specs.Signed.{above, below};
-ghost use Rattle.model.specs.Limits.{unit_limit, term_limit};
+ghost use Rattle.model.specs.Limits.{term_limit};
 ghost use Rattle.river.specs.Flow.{Ready};
-ghost use Rattle.river.specs.Units.{units_view, units_of};
+ghost use Rattle.river.specs.Units.{units_of};
 ghost use Rattle.river.specs.Wells.{well_availability};
-ghost use Rattle.figures.specs.Figures.{WellsReady, aquifers_view};
+ghost use Rattle.figures.specs.Figures.{WellsReady, aquifers_of};
 ghost use Rattle.refusal.specs.Grant as grants;
 ghost use Rattle.effect.specs.Granted.{Named};
 ghost use Rattle.refusal.specs.Steps as steps;
-ghost use Rattle.refusal.specs.Steps.{entries_view};
+ghost use Rattle.refusal.specs.Steps.{entries_of};
 
 use crate::Giver;
 use figures::UnitFigures;
-use model::{Aquifer, Balance, Title, Unit};
+use model::{Aquifer, Title};
 use river::Tree;
 
 // Figures of a unit with a negative flow or a negative availability.
@@ -24,22 +24,12 @@ fn in_deficit(f: UnitFigures) -> bool
     f.flow < 0 || f.availability < 0
 }
 
-// Some of n units drains to an outlet and has a negative flow or a negative availability, by their figures and their outlets.
-fn dry_by(
-    figures: [UnitFigures; Balance::UNITS],
-    ends: [usize; Balance::UNITS],
-    n: usize,
-    outlet: usize,
-) -> bool
-    requires { n ≤ unit_limit }
-    ensures { result ≡ steps.dry_by figures ends n outlet }
+// Some unit drains to an outlet and has a negative flow or a negative availability, by their figures and their outlets.
+fn dry_by(figures: &[UnitFigures], ends: &[usize], outlet: usize) -> bool
+    requires { length figures.now ≡ length ends.now }
+    ensures { result ≡ steps.dry_by figures.now ends.now (length figures.now) outlet }
 {
-    for i in 0..n {
-        if ends[i] == outlet && in_deficit(figures[i]) {
-            return true;
-        }
-    }
-    false
+    (0..figures.len()).any(|i| ends[i] == outlet && in_deficit(figures[i]))
 }
 
 // The outlet of the unit at an index, or some unit that drains there, has a negative flow or a negative availability.
@@ -47,17 +37,18 @@ fn dry(tree: &Tree, j: usize) -> bool
     requires { j < length tree.now }
     ensures { result ≡ grants.dry (units_of tree.now) j }
 {
+    let figures = figures::of_units(tree);
     let ends = reach::outlets(tree);
     let n = tree.units().len();
-    dry_by(figures::of_units(tree), ends, n, ends[j])
+    dry_by(&figures[..n], &ends[..n], ends[j])
 }
 
 // An aquifer with a negative availability.
-fn drained(a: Aquifer) -> bool
-    requires { (above a.storage ≤ term_limit) × (below a.storage ≤ term_limit) }
-    ensures { result ≡ not (non_neg (well_availability a)) }
+fn drained(a: &Aquifer) -> bool
+    requires { (above a.now.storage ≤ term_limit) × (below a.now.storage ≤ term_limit) }
+    ensures { result ≡ not (non_neg (well_availability a.now)) }
 {
-    figures::of_aquifer(&a).availability < 0
+    figures::of_aquifer(a).availability < 0
 }
 
 // What gives the water of a title.
@@ -73,19 +64,13 @@ fn giver(t: Title) -> Giver
     }
 }
 
-// No water for a title that is in, among n units and m aquifers: in the outlet basin of the unit that gives, or in the aquifer that gives.
-pub fn no_water(
-    units: [Unit; Balance::UNITS],
-    n: usize,
-    aquifers: [Aquifer; Balance::AQUIFERS],
-    m: usize,
-    t: Title,
-) -> bool
-    requires { Ready (units_view units n) × WellsReady (aquifers_view aquifers m) × Named (entries_view units n aquifers m 0) t }
-    ensures { result ≡ grants.no_water (entries_view units n aquifers m 0) t }
+// No water for a title that is in: in the outlet basin of the unit that gives, or in the aquifer that gives.
+pub fn no_water(tree: &Tree, aquifers: &[Aquifer], t: Title) -> bool
+    requires { WellsReady (aquifers_of aquifers.now) × Named (entries_of tree.now aquifers.now 0) t }
+    ensures { result ≡ grants.no_water (entries_of tree.now aquifers.now 0) t }
 {
     match giver(t) {
-        Giver::FromUnit(unit) => dry(&Tree::new(&units[..n]), usize::from(unit) - 1),
-        Giver::FromAquifer(aquifer) => drained(aquifers[usize::from(aquifer) - 1]),
+        Giver::FromUnit(unit) => dry(tree, usize::from(unit) - 1),
+        Giver::FromAquifer(aquifer) => drained(&aquifers[usize::from(aquifer) - 1]),
     }
 }

@@ -1,12 +1,14 @@
 -- The arrays that a decision tries: with a title in, and without one. Assumes nothing.
 use Rattle.std.specs.Prelude.{Ok}
-use Prim.Native.Nat.{ℕ, pred, ◌≤◌, ◌<◌}
-use mathlib.Core.Path.{◌≡◌, ap, subst⁻¹, ◌∙◌}
+use Prim.Native.Nat.{ℕ, pred, ◌+◌, ◌≤◌, ◌<◌}
+use mathlib.Core.Path.{◌≡◌, refl, sym, ap, subst⁻¹, ◌∙◌}
 use mathlib.Core.Bool.{true, false}
 use mathlib.Core.List.{List}
+use lib.ListN.{length, take}
 use lib.Signed.{non_neg}
 use native.Mathlib.Omega.{arith}
 use Rattle.laws.specs.Sum.{every}
+use Rattle.laws.proofs.Arrays.{length_indexed}
 use Rattle.laws.proofs.Chain.{t_and, f_and, f_and_on, t_lt, f_lt, t_le, f_le}
 use Rattle.model.specs.declared.Unit.{Unit}
 use Rattle.model.specs.declared.Aquifer.{Aquifer}
@@ -14,54 +16,85 @@ use Rattle.model.specs.declared.Title.{Title}
 use Rattle.model.specs.declared.Balance.{Balance}
 use Rattle.model.specs.View.{View, view_of}
 use Rattle.river.specs.Flow.{Ready}
-use Rattle.river.specs.Units.{units_view}
-use Rattle.river.proofs.Units.{alone, flow_alone, ready_alone}
-use Rattle.figures.specs.Figures.{WellsReady, aquifers_view}
-use Rattle.figures.proofs.Aquifers.{wells_alone}
+use Rattle.river.specs.Units.{units_view, units_of}
+use Rattle.river.proofs.Units.{alone, flow_alone, ready_alone, ready_same}
+use Rattle.figures.specs.Figures.{WellsReady, aquifers_of}
 use Rattle.basin.specs.Sound.{sound, flowing}
 use Rattle.basin.proofs.Soundness.{soundness}
-use Rattle.effect.specs.Granted.{granted, raised_units, raised_wells, posted, Sized, Named}
+use Rattle.titles.specs.Adds.{return_of}
+use Rattle.effect.specs.Effect.{changed_unit, changed_aquifer}
+use Rattle.effect.specs.Granted.{granted, raised_units, raised_wells, lacking, Sized, Named}
 use Rattle.effect.specs.Cancelled.{title_of, cancelled, without_title, lowered_units, Takable}
-use Rattle.effect.proofs.Changing.{posted_view}
+use Rattle.effect.proofs.Changing.{unit_changed, aquifer_changed, plus_none}
 use Rattle.refusal.specs.Grant.{no_water}
-use Rattle.refusal.specs.Steps.{early_fault, entries_view}
+use Rattle.refusal.specs.Steps.{early_fault, entries_of}
 use Rattle.refusal.proofs.Granting.{granting_of, granting_named, granted_ready, granted_wells_ready}
-use Rattle.refusal.proofs.Giving.{water_untitled}
+use Rattle.refusal.proofs.Entries.{SameEntries, counted_entries, entries_wells_ready, early_same, water_same}
 use Rattle.register.specs.Cancel.{number_in_force}
 use Rattle.register.proofs.Replies.{grantable_of}
 use Rattle.register.proofs.Cancelling.{in_force_of, takable_in_force, cancelled_view}
 use Rattle.register.proofs.Leaving.{cancelled_ready}
 
 -- Units and aquifers in which the water of a title can be looked at.
-abbrev pub Trial : Balance → Title → List Unit → List Aquifer → Type 0
-Trial b t us ws =
-    Ready (units_view us b.unit_count) × WellsReady (aquifers_view ws b.aquifer_count)
-    × Named (entries_view us b.unit_count ws b.aquifer_count 0) t
+abbrev pub Trial : List Unit → List Aquifer → Title → Type 0
+Trial us ws t = Ready (units_of us) × WellsReady (aquifers_of ws) × Named (entries_of us ws 0) t
 
-module _ (b : Balance) (t : Title) (us : List Unit) (ws : List Aquifer) (z : Sized b) (e : sound (view_of b) ≡ true)
-    (q : early_fault (view_of b) t ≡ Ok tt) (u : us ≡ raised_units t b.units) (w : ws ≡ raised_wells t b.aquifers) where
-  view : view_of (posted b t) ≡ granted (view_of b) t
-  view = posted_view b t z (grantable_of b t e q)
+-- The counted units and aquifers of a balance are the entries of its view.
+module _ (b : Balance) (units : b.unit_count ≤ length b.units) (wells : b.aquifer_count ≤ length b.aquifers) (r : Ready (view_of b)) where
+  counted : SameEntries (view_of b) (entries_of (take b.unit_count b.units) (take b.aquifer_count b.aquifers) b.given)
+  counted = counted_entries (view_of b) b.units b.aquifers b.given units wells (λ k h. refl) (λ k h. refl)
 
-  -- The arrays with the title in can be worked out.
-  pub trial : Trial b t us ws
-  trial =
+  pub counted_ready : Ready (units_of (take b.unit_count b.units))
+  counted_ready = ready_same (view_of b) _ (record { count = counted.units.count; unit = counted.units.unit }) r
+
+  -- What a grant refuses early is asked of them.
+  pub early_counted : (t : Title)
+      → early_fault (entries_of (take b.unit_count b.units) (take b.aquifer_count b.aquifers) b.given) t ≡ early_fault (view_of b) t
+  early_counted t = early_same (view_of b) _ counted r refl t
+
+-- As many units and aquifers are there with a title in.
+pub length_raised : (t : Title) (us : List Unit) → length (raised_units t us) ≡ length us
+length_raised t us = length_indexed (changed_unit ◌+◌ t (return_of t)) us
+
+pub length_drawn : (t : Title) (ws : List Aquifer) → length (raised_wells t ws) ≡ length ws
+length_drawn t ws = length_indexed (changed_aquifer ◌+◌ t (return_of t)) ws
+
+-- The counted units and aquifers with a title in that is not refused early.
+module _ (b : Balance) (t : Title) (units : length b.units ≡ 64) (wells : length b.aquifers ≡ 32) (e : sound (view_of b) ≡ true)
+    (q : early_fault (view_of b) t ≡ Ok tt) where
+  abbrev raised : List Unit
+  raised = take b.unit_count (raised_units t b.units)
+
+  abbrev drawn : List Aquifer
+  drawn = take b.aquifer_count (raised_wells t b.aquifers)
+
+  same : SameEntries (granted (view_of b) t) (entries_of raised drawn 0)
+  same =
       let s = soundness (view_of b) e in
-      let g = granting_of (view_of b) t q in
-      let v = view_of (posted b t) in
-      subst⁻¹ (λ (x : List Unit). Trial b t x ws) u
-      (subst⁻¹ (λ (y : List Aquifer). Trial b t (raised_units t b.units) y) w (
-        ready_alone v (subst⁻¹ Ready view (granted_ready (view_of b) t s g)),
-        wells_alone (posted b t) (subst⁻¹ WellsReady view (granted_wells_ready (view_of b) t s g)),
-        granting_named (view_of b) t g,
-      ))
+      let g = grantable_of b t e q in
+      counted_entries (granted (view_of b) t) (raised_units t b.units) (raised_wells t b.aquifers) 0
+      (omega (arith, s.few_units, length_raised t b.units))
+      (omega (arith, s.few_aquifers, length_drawn t b.aquifers))
+      (λ k h. sym (unit_changed ◌+◌ plus_none lacking t b.units units g.units k))
+      (λ k h. sym (aquifer_changed ◌+◌ plus_none lacking t b.aquifers wells g.wells k))
 
-  -- The water of a title, in the arrays with the title in.
-  pub trial_water : no_water (entries_view us b.unit_count ws b.aquifer_count 0) t ≡ no_water (granted (view_of b) t) t
-  trial_water =
-      (λ i. no_water (entries_view (u i) b.unit_count (w i) b.aquifer_count 0) t)
-      ∙ water_untitled (view_of (posted b t)) 0 t
-      ∙ ap (λ (x : View). no_water x t) view
+  ready : Ready (granted (view_of b) t)
+  ready = granted_ready (view_of b) t (soundness (view_of b) e) (granting_of (view_of b) t q)
+
+  named : Named (granted (view_of b) t) t
+  named = granting_named (view_of b) t (granting_of (view_of b) t q)
+
+  -- They can be worked out.
+  pub trial : Trial raised drawn t
+  trial = (
+    ready_same (granted (view_of b) t) _ (record { count = same.units.count; unit = same.units.unit }) ready,
+    entries_wells_ready _ raised drawn 0 same (granted_wells_ready (view_of b) t (soundness (view_of b) e) (granting_of (view_of b) t q)),
+    rw (same.units.count, same.count) named,
+  )
+
+  -- The water of the title, in them.
+  pub trial_water : no_water (entries_of raised drawn 0) t ≡ no_water (granted (view_of b) t) t
+  trial_water = water_same (granted (view_of b) t) _ same ready t named
 
 -- A number is in force, or it is not.
 module _ (v : View) (n : ℕ) where

@@ -15,7 +15,7 @@ pub fn ask(b: Balance, c: Call) -> Reply
     ensures { result ≡ calls.call_reply b c }
 {
     let sound = basin::sound(b);
-    match decide(b, sound, c) {
+    match decide(&b, sound, c) {
         Ok(()) => Reply {
             answer: Ok(()),
             number: number_of(b.given, c),

@@ -9,44 +9,40 @@ ghost use Rattle.register.specs.Reply as replies;
 ghost use Rattle.register.specs.Cancel as cancels;
 ghost use Rattle.register.specs.Calls as calls;
 
-use crate::outcome::sized;
-use model::{Answer, Balance, Call, Refusal, Title, Unit};
+use model::{Answer, Balance, Call, Refusal, Title};
 use river::Tree;
 
 // The answer to a grant on a sound balance: 12 to 16 and 18, then 17 with the title in.
-fn grant_answer(b: Balance, t: Title) -> Answer
-    requires { sounds.sound (view_of b) ≡ true }
-    ensures { result ≡ (replies.grant_reply b t).answer }
+fn grant_answer(b: &Balance, t: Title) -> Answer
+    requires { sounds.sound (view_of b.now) ≡ true }
+    ensures { result ≡ (replies.grant_reply b.now t).answer }
 {
-    let _ = sized(b);
     let n = b.unit_count;
     let m = b.aquifer_count;
-    let units = b.units;
-    let aquifers = b.aquifers;
-    refusal::early(units, n, aquifers, m, b.given, t)?;
-    let raised = effect::raised_units(units, t);
-    let drawn = effect::raised_wells(aquifers, t);
-    if refusal::no_water(raised, n, drawn, m, t) {
+    refusal::early(&Tree::new(&b.units[..n]), &b.aquifers[..m], b.given, t)?;
+    let raised = effect::raised_units(b.units, t);
+    let drawn = effect::raised_wells(b.aquifers, t);
+    if refusal::no_water(&Tree::new(&raised[..n]), &drawn[..m], t) {
         return Err(Refusal::NoWater);
     }
     Ok(())
 }
 
 // Some flow would be negative without a title.
-fn needed(units: [Unit; Balance::UNITS], n: usize, t: Title) -> bool
-    requires { UnitsHeld t units × Ready (units_view (lowered_units t units) n) }
-    ensures { result ≡ not (sounds.flowing (units_view (lowered_units t units) n)) }
+fn needed(b: &Balance, t: Title) -> bool
+    requires { UnitsHeld t b.now.units × Ready (units_view (lowered_units t b.now.units) b.now.unit_count) }
+    ensures { result ≡ not (sounds.flowing (units_view (lowered_units t b.now.units) b.now.unit_count)) }
 {
-    let less = effect::lowered_units(units, t);
+    let n = b.unit_count;
+    let less = effect::lowered_units(b.units, t);
     Tree::new(&less[..n]).first_negative().is_some()
 }
 
 // The answer to a cancellation on a sound balance: 19 where the number was not given or its place is not in force, then 20.
-fn cancel_answer(b: Balance, number: u16) -> Answer
-    requires { sounds.sound (view_of b) ≡ true }
-    ensures { result ≡ (cancels.cancel_reply b number).answer }
+fn cancel_answer(b: &Balance, number: u16) -> Answer
+    requires { sounds.sound (view_of b.now) ≡ true }
+    ensures { result ≡ (cancels.cancel_reply b.now number).answer }
 {
-    let _ = sized(b);
     let k = usize::from(number);
     if k == 0 {
         return Err(Refusal::NotInForce);
@@ -59,16 +55,17 @@ fn cancel_answer(b: Balance, number: u16) -> Answer
     if !in_force {
         return Err(Refusal::NotInForce);
     }
-    if needed(b.units, b.unit_count, place.title) {
+    if needed(b, place.title) {
         return Err(Refusal::FlowNeeded);
     }
     Ok(())
 }
 
-// The answer to a call on a balance that was tested for 0: `sound` says what the test gave.
-pub fn decide(b: Balance, sound: bool, c: Call) -> Answer
-    requires { sound ≡ sounds.sound (view_of b) }
-    ensures { result ≡ (calls.call_reply b c).answer }
+// The answer to a call on a balance that was tested for 0: `sound` says what the test gave. The two are no struct with an invariant: every
+// accepted call changes the balance, so that the struct would be taken apart and made again at each, to keep what `perform` promises.
+pub fn decide(b: &Balance, sound: bool, c: Call) -> Answer
+    requires { sound ≡ sounds.sound (view_of b.now) }
+    ensures { result ≡ (calls.call_reply b.now c).answer }
 {
     if !sound {
         return Err(Refusal::Unsound);

@@ -1,36 +1,14 @@
-// What a call does once it is accepted, and the lengths that every balance has.
-ghost use Rattle.std.specs.Prelude.{◌≡◌, ◌≤◌, length};
+// What a call does once it is accepted.
+ghost use Rattle.std.specs.Prelude.{◌≡◌, ◌≤◌};
 ghost use Rattle.model.specs.View.{view_of};
 ghost use Rattle.model.specs.Answers.{accepted};
-ghost use Rattle.model.specs.Limits.{unit_limit, aquifer_limit, title_limit};
+ghost use Rattle.model.specs.Limits.{title_limit};
 ghost use Rattle.basin.specs.Sound as sounds;
-ghost use Rattle.effect.specs.Granted.{Sized};
 ghost use Rattle.register.specs.Reply as replies;
 ghost use Rattle.register.specs.Calls as calls;
 
 use crate::Reply;
-use model::{Aquifer, Balance, Call, Place, Refusal, Unit};
-
-// Three arrays have their full length.
-fn lengths(
-    units: [Unit; Balance::UNITS],
-    aquifers: [Aquifer; Balance::AQUIFERS],
-    titles: [Place; Balance::TITLES],
-) -> bool
-    ensures { (length units ≡ unit_limit) × (length aquifers ≡ aquifer_limit) × (length titles ≡ title_limit) }
-{
-    true
-}
-
-// The arrays of a balance have their full length.
-pub(crate) fn sized(b: Balance) -> bool
-    ensures { Sized b }
-{
-    let units = b.units;
-    let aquifers = b.aquifers;
-    let titles = b.titles;
-    lengths(units, aquifers, titles)
-}
+use model::{Balance, Call, Refusal};
 
 // The balance after an accepted call. It is as sound as the one before, so that a list of calls needs one test for 0.
 pub fn perform(b: Balance, c: Call) -> Balance
@@ -38,7 +16,6 @@ pub fn perform(b: Balance, c: Call) -> Balance
     ensures value { result ≡ (calls.call_reply b c).balance }
     ensures b_value { sounds.sound (view_of b) ≡ sounds.sound (view_of result) }
 {
-    let _ = sized(b);
     match c {
         Call::Grant { title } => effect::post(b, title),
         Call::Cancel { number } => effect::take_back(b, number),

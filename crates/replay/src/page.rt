@@ -64,7 +64,7 @@ fn replies(
                 return replayed(kept, balance, next, count, page.len(), false);
             }
             RecordAt::Calls { call, to } => {
-                let answer = decide(balance, sound, call);
+                let answer = decide(&balance, sound, call);
                 let outcome = listing::called(call, answer, balance.given);
                 if let Ok(()) = answer {
                     balance = perform(balance, call);

@@ -86,7 +86,3 @@ module _ (titles : List Place) where
     all_kept xs p e f h t s =
         titled_more s _ _ nothing (t s) (λ j. sym (out_of_force s j p f) ∙ ap (λ (z : Place). place_adds z s j) e)
         (raised_none _ (all_have_room xs h t s))
-
-    -- After the last place.
-    pub all_done : (m : ℕ) (xs : Sums) → m ≤ n → n ≤ m → TitledAll titles n xs → TitledAll titles m xs
-    all_done m xs h g t = let e : m ≡ n = omega arith in rw e t

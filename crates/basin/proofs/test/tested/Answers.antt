@@ -23,7 +23,7 @@ returns-then-not-counts_sound c = record {
 
 -- The view of the balance, and that the counts are within their limits.
 abbrev counted : Else-not-counts_sound → View
-counted c = view_of c.args.b
+counted c = view_of c.args.b.now
 
 counts-hold : (c : Else-not-counts_sound) → sound_counts (counted c) ≡ true
 counts-hold c = call_holds c.counts_sound.ensures c.if-not-counts_sound.false

@@ -9,7 +9,7 @@ use Rattle.register.proofs.decision.decide.Goals as goal
 pub returns-then-not-sound : goal.returns-then-not-sound
 returns-then-not-sound c =
     let start = c in
-    ap (λ (r : Reply). r.answer) (call_unsound start.args.b start.args.c (sym start.requires ∙ c.if-not-sound.true))
+    ap (λ (r : Reply). r.answer) (call_unsound start.args.b.now start.args.c (sym start.requires ∙ c.if-not-sound.true))
 
 pub grant_answer-requires : goal.grant_answer-requires
 grant_answer-requires c =
@@ -22,9 +22,9 @@ cancel_answer-requires c =
 pub returns-in-Grant : goal.returns-in-Grant
 returns-in-Grant c =
     let start = c in
-    c.grant_answer.ensures ∙ ap (λ (x : Call). (call_reply start.args.b x).answer) (sym c.in-Grant.is)
+    c.grant_answer.ensures ∙ ap (λ (x : Call). (call_reply start.args.b.now x).answer) (sym c.in-Grant.is)
 
 pub returns-in-Cancel : goal.returns-in-Cancel
 returns-in-Cancel c =
     let start = c in
-    c.cancel_answer.ensures ∙ ap (λ (x : Call). (call_reply start.args.b x).answer) (sym c.in-Cancel.is)
+    c.cancel_answer.ensures ∙ ap (λ (x : Call). (call_reply start.args.b.now x).answer) (sym c.in-Cancel.is)

@@ -1,39 +1,52 @@
 -- `register::grant_answer` meets its contract. Assumes nothing.
+use Prim.Native.Nat.{◌≤◌}
 use mathlib.Core.Path.{◌≡◌, sym, ap, ◌∙◌}
+use lib.ListN.{length, take, length-take}
+use native.Mathlib.Omega.{arith}
 use Rattle.std.proofs.Common.{rules, Ok, Err}
 use Rattle.model.specs.View.{view_of}
-use Rattle.river.proofs.Units.{ready_alone}
-use Rattle.basin.proofs.Soundness.{soundness, sound_ready}
+use Rattle.basin.proofs.Soundness.{Soundness, soundness, sound_ready}
 use Rattle.effect.specs.Granted.{granted}
 use Rattle.refusal.specs.Grant.{no_water}
-use Rattle.refusal.specs.Steps.{early_fault}
-use Rattle.refusal.proofs.Giving.{early_untitled}
+use Rattle.refusal.specs.Steps.{early_fault, entries_of}
 use Rattle.register.specs.declared.Reply.{Reply}
 use Rattle.register.proofs.Replies.{grantable_of, reply_early, reply_dry, reply_given}
-use Rattle.register.proofs.Trial.{trial, trial_water}
+use Rattle.register.proofs.Trial.{length_raised, length_drawn, counted_ready, early_counted, trial, trial_water}
 use Rattle.register.proofs.decision.grant_answer.Goals as goal
-use Rattle.register.proofs.decision.grant_answer.Goals.{After-early, After-no_water, In_ok-early}
+use Rattle.register.proofs.decision.grant_answer.Goals.{Start, After-early, After-no_water, In_ok-early}
+
+few : (c : Start) → Soundness (view_of c.args.b.now)
+few c = soundness (view_of c.args.b.now) c.requires
+
+pub shared_ref_as_front-early : goal.shared_ref_as_front-early
+shared_ref_as_front-early c = (few (goal.at.shared_ref_as_front-early c).Start).few_units
+
+pub shared_ref_as_front-early-2 : goal.shared_ref_as_front-early-2
+shared_ref_as_front-early-2 c = (few (goal.at.shared_ref_as_front-early-2 c).Start).few_aquifers
 
 pub early-requires : goal.early-requires
 early-requires c =
-    let start = c in
-    let v = view_of start.args.b in
-    (ready_alone v (sound_ready v start.requires), (soundness v start.requires).few_aquifers)
+    let b = c.args.b.now in
+    let f = few (goal.at.early-requires c).Start in
+    let units : b.unit_count ≤ length b.units = omega (arith, length-take b.unit_count b.units, f.few_units) in
+    let wells : b.aquifer_count ≤ length b.aquifers = omega (arith, length-take b.aquifer_count b.aquifers, f.few_aquifers) in
+    (counted_ready b units wells (sound_ready (view_of b) c.requires), omega (arith, f.few_aquifers))
 
 -- What the early refusals answer.
-early-answer : (c : After-early) → let start = c in
-    c.early.result ≡ early_fault (view_of start.args.b) start.args.t
+early-answer : (c : After-early) → c.early.result ≡ early_fault (view_of c.args.b.now) c.args.t
 early-answer c =
-    let start = c in
-    c.early.ensures ∙ early_untitled (view_of start.args.b) start.args.t
+    let b = c.args.b.now in
+    let f = few (goal.at.After-early c).Start in
+    let units : b.unit_count ≤ length b.units = omega (arith, length-take b.unit_count b.units, f.few_units) in
+    let wells : b.aquifer_count ≤ length b.aquifers = omega (arith, length-take b.aquifer_count b.aquifers, f.few_aquifers) in
+    c.early.ensures ∙ early_counted b units wells (sound_ready (view_of b) c.requires) c.args.t
 
-none_early : (c : In_ok-early) → let start = c in
-    early_fault (view_of start.args.b) start.args.t ≡ Ok tt
+none_early : (c : In_ok-early) → early_fault (view_of c.args.b.now) c.args.t ≡ Ok tt
 none_early c = let e = early-answer (goal.at.In_ok-early c).After-early in search rules
 
 pub returns-in_err-early : goal.returns-in_err-early
 returns-in_err-early c =
-    let b = c.args.b in
+    let b = c.args.b.now in
     let r = c.in_err-early.field-0.0 in
     let q = early-answer (goal.at.returns-in_err-early c).After-early in
     let e : early_fault (view_of b) c.args.t ≡ Err r = search rules in
@@ -42,37 +55,52 @@ returns-in_err-early c =
 
 pub raised_units-raised-requires : goal.raised_units-raised-requires
 raised_units-raised-requires c =
-    let start = c in
-    (grantable_of start.args.b start.args.t start.requires (none_early c)).units
+    (grantable_of c.args.b.now c.args.t c.requires (none_early (goal.at.raised_units-raised-requires c).In_ok-early)).units
 
 pub raised_wells-drawn-requires : goal.raised_wells-drawn-requires
 raised_wells-drawn-requires c =
-    let start = c in
-    (grantable_of start.args.b start.args.t start.requires (none_early (goal.at.raised_wells-drawn-requires c).In_ok-early)).wells
+    (grantable_of c.args.b.now c.args.t c.requires (none_early (goal.at.raised_wells-drawn-requires c).In_ok-early)).wells
+
+pub slice_bounds-raised-end : goal.slice_bounds-raised-end
+slice_bounds-raised-end c = omega (arith, (few (goal.at.slice_bounds-raised-end c).Start).few_units)
+
+pub slice_bounds-drawn-end : goal.slice_bounds-drawn-end
+slice_bounds-drawn-end c = omega (arith, (few (goal.at.slice_bounds-drawn-end c).Start).few_aquifers)
+
+pub slice_bounds-no_water-end : goal.slice_bounds-no_water-end
+slice_bounds-no_water-end c =
+    omega (arith, length-take c.args.b.now.unit_count c.raised_units-raised.result, (few (goal.at.slice_bounds-no_water-end c).Start).few_units)
+
+pub slice_bounds-no_water-end-2 : goal.slice_bounds-no_water-end-2
+slice_bounds-no_water-end-2 c =
+    omega (arith, length-take c.args.b.now.aquifer_count c.raised_wells-drawn.result, (few (goal.at.slice_bounds-no_water-end-2 c).Start).few_aquifers)
 
 pub no_water-requires : goal.no_water-requires
 no_water-requires c =
-    let start = c in
-    trial start.args.b start.args.t _ _ c.sized.ensures start.requires
-    (none_early (goal.at.no_water-requires c).In_ok-early) c.raised_units-raised.ensures c.raised_wells-drawn.ensures
+    let b = c.args.b.now in
+    let units : length b.units ≡ 64 = omega (arith, length_raised c.args.t b.units, ap length c.raised_units-raised.ensures) in
+    let wells : length b.aquifers ≡ 32 = omega (arith, length_drawn c.args.t b.aquifers, ap length c.raised_wells-drawn.ensures) in
+    let t = trial b c.args.t units wells c.requires (none_early (goal.at.no_water-requires c).In_ok-early) in
+    rw (c.raised_units-raised.ensures, c.raised_wells-drawn.ensures) t
 
 -- What the water of the title says of the balance.
-water : (c : After-no_water) → let start = c in
-    c.no_water.result ≡ no_water (granted (view_of start.args.b) start.args.t) start.args.t
+water : (c : After-no_water) → c.no_water.result ≡ no_water (granted (view_of c.args.b.now) c.args.t) c.args.t
 water c =
-    let start = c in
+    let b = c.args.b.now in
+    let units : length b.units ≡ 64 = omega (arith, length_raised c.args.t b.units, ap length c.raised_units-raised.ensures) in
+    let wells : length b.aquifers ≡ 32 = omega (arith, length_drawn c.args.t b.aquifers, ap length c.raised_wells-drawn.ensures) in
     c.no_water.ensures
-    ∙ trial_water start.args.b start.args.t _ _ c.sized.ensures start.requires
-    (none_early (goal.at.After-no_water c).In_ok-early) c.raised_units-raised.ensures c.raised_wells-drawn.ensures
+    ∙ (λ i. no_water (entries_of (take b.unit_count (c.raised_units-raised.ensures i)) (take b.aquifer_count (c.raised_wells-drawn.ensures i)) 0) c.args.t)
+    ∙ trial_water b c.args.t units wells c.requires (none_early (goal.at.After-no_water c).In_ok-early)
 
 pub returns-then-no_water : goal.returns-then-no_water
 returns-then-no_water c =
     let start = c in
-    ap (λ (r : Reply). r.answer) (reply_dry start.args.b start.args.t start.requires (none_early (goal.at.returns-then-no_water c).In_ok-early)
+    ap (λ (r : Reply). r.answer) (reply_dry start.args.b.now start.args.t start.requires (none_early (goal.at.returns-then-no_water c).In_ok-early)
     (sym (water (goal.at.returns-then-no_water c).After-no_water) ∙ c.if-no_water.true))
 
 pub returns : goal.returns
 returns c =
     let start = c in
-    ap (λ (r : Reply). r.answer) (reply_given start.args.b start.args.t start.requires (none_early (goal.at.returns c).In_ok-early)
+    ap (λ (r : Reply). r.answer) (reply_given start.args.b.now start.args.t start.requires (none_early (goal.at.returns c).In_ok-early)
     (sym (water (goal.at.returns c).After-no_water) ∙ c.if-no_water.false))

@@ -17,12 +17,12 @@ use Rattle.register.proofs.decision.needed.Goals.{After-lowered_units-less}
 
 -- The view of the units without the title: the counted ones are its units.
 abbrev view : After-lowered_units-less → View
-view c = units_view c.lowered_units-less.result c.args.n
+view c = units_view c.lowered_units-less.result c.args.b.now.unit_count
 
 ready : (c : After-lowered_units-less) → Ready (view c)
-ready c = subst⁻¹ (λ (us : List Unit). Ready (units_view us c.args.n)) c.lowered_units-less.ensures c.requires.1
+ready c = subst⁻¹ (λ (us : List Unit). Ready (units_view us c.args.b.now.unit_count)) c.lowered_units-less.ensures c.requires.1
 
-same : (c : After-lowered_units-less) → SameUnits (view c) (units_of (take c.args.n c.lowered_units-less.result))
+same : (c : After-lowered_units-less) → SameUnits (view c) (units_of (take c.args.b.now.unit_count c.lowered_units-less.result))
 same c = counted_units (view c) c.lowered_units-less.result (omega (arith, (ready c).few)) (λ k h. refl)
 
 pub new-requires : goal.new-requires
@@ -34,5 +34,5 @@ pub returns : goal.returns
 returns c =
     c.is_some.ensures
     ∙ ap is_some (rw c.new.ensures at c.first_negative.ensures ∙ negative_same _ _ (same (goal.at.returns c).After-lowered_units-less))
-    ∙ some_fails (λ j. non_neg (flow (units_view c.lowered_units-less.result c.args.n) j)) c.args.n
-    ∙ ap (λ (us : List Unit). not (flowing (units_view us c.args.n))) c.lowered_units-less.ensures
+    ∙ some_fails (λ j. non_neg (flow (units_view c.lowered_units-less.result c.args.b.now.unit_count) j)) c.args.b.now.unit_count
+    ∙ ap (λ (us : List Unit). not (flowing (units_view us c.args.b.now.unit_count))) c.lowered_units-less.ensures

@@ -17,7 +17,11 @@ use Rattle.register.proofs.Leaving.{Released, cancel_released, released_reply}
 use Rattle.register.proofs.Keeping.{call_keeps}
 use Rattle.register.proofs.Trial.{takable}
 use Rattle.register.proofs.outcome.perform.Goals as goal
-use Rattle.register.proofs.outcome.perform.Goals.{In-Cancel, In-Grant}
+use Rattle.register.proofs.outcome.perform.Goals.{Start, In-Cancel, In-Grant}
+
+-- The arrays have their full length.
+sized : (c : Start) → Sized c.args.b
+sized c = record { units = omega arith; aquifers = omega arith; titles = omega arith }
 
 -- A balance handed back is as sound as the one handed in.
 kept : (b : Balance) (c : Call) (r : Balance) → Sized b → r ≡ (call_reply b c).balance
@@ -54,7 +58,7 @@ pub returns-in-Grant : goal.returns-in-Grant
 returns-in-Grant c =
     let start = c in
     let t = c.in-Grant in
-    kept start.args.b start.args.c _ c.sized.ensures
+    kept start.args.b start.args.c _ (sized (goal.at.returns-in-Grant c).Start)
     (c.post.ensures ∙ ap (λ (r : Reply). r.balance) (given_reply start.args.b t.title (granted (goal.at.returns-in-Grant c).In-Grant))
     ∙ ap (λ (x : Call). (call_reply start.args.b x).balance) (sym t.is))
 
@@ -62,6 +66,6 @@ pub returns-in-Cancel : goal.returns-in-Cancel
 returns-in-Cancel c =
     let start = c in
     let n = c.in-Cancel in
-    kept start.args.b start.args.c _ c.sized.ensures
+    kept start.args.b start.args.c _ (sized (goal.at.returns-in-Cancel c).Start)
     (c.take_back.ensures ∙ ap (λ (r : Reply). r.balance) (released_reply start.args.b n.number (released (goal.at.returns-in-Cancel c).In-Cancel))
     ∙ ap (λ (x : Call). (call_reply start.args.b x).balance) (sym n.is))
