@@ -14,7 +14,7 @@ use Rattle.record.specs.declared.CallAt.{CallAt}
 use Rattle.record.specs.declared.CallAt.TheVariants.{End, Fails, Asks}
 use Rattle.record.specs.Bytes.{bits8}
 use Rattle.record.specs.Record.{call_mark}
-use Rattle.record.specs.Calls.{whole_call, call_marked, call_at, calls_from, ending_from, calls_of, ending_of}
+use Rattle.record.specs.Calls.{whole_call, call_marked, call_at, calls_from, ending_from}
 
 abbrev Onward : List ℕ → ℕ → CallAt → Type 0
 Onward s at End = Unit {0}
@@ -51,9 +51,9 @@ pub asks_onward : (s : List ℕ) (at : ℕ) (c : Call) (to : ℕ) → call_at s 
 asks_onward s at c to e = subst (Onward s at) e (at_onward s at)
 
 -- Two allowances above the number of bytes that are left give the same calls and the same end.
-record Same (f g : ℕ) (s : List ℕ) (at : ℕ) : Type 0 where
-  calls : calls_from f s at ≡ calls_from g s at
-  ending : ending_from f s at ≡ ending_from g s at
+pub record Same (f g : ℕ) (s : List ℕ) (at : ℕ) : Type 0 where
+  pub calls : calls_from f s at ≡ calls_from g s at
+  pub ending : ending_from f s at ≡ ending_from g s at
 
 one_more : (f g : ℕ) (s : List ℕ) (at : ℕ) → ((to : ℕ) → at < to → to ≤ length s → Same f g s to) → (x : CallAt) → call_at s at ≡ x
     → Onward s at x → Same (suc f) (suc g) s at
@@ -64,15 +64,8 @@ one_more f g s at rest (Asks c to) e o =
     let r = rest to (omega (arith, o.0)) o.1 in
     record { calls = rw (e, calls_from) (ap (λ (l : List Call). c ∷ l) r.calls); ending = rw (e, ending_from) r.ending }
 
-same_calls : (f g : ℕ) (s : List ℕ) (at : ℕ) → length s - at < f → length s - at < g → Same f g s at
+pub same_calls : (f g : ℕ) (s : List ℕ) (at : ℕ) → length s - at < f → length s - at < g → Same f g s at
 same_calls zero g s at h k = absurd (omega arith)
 same_calls (suc f) zero s at h k = absurd (omega arith)
 same_calls (suc f) (suc g) s at h k =
     one_more f g s at (λ to a b. same_calls f g s to (omega arith) (omega arith)) (call_at s at) refl (at_onward s at)
-
--- The allowance of records never runs out: with any larger allowance the calls of a book and their end are the same.
-pub enough_calls : (s : List ℕ) (at e : ℕ) → calls_from (length s + 1 + e) s at ≡ calls_of s at
-enough_calls s at e = (same_calls (length s + 1 + e) (length s + 1) s at (omega arith) (omega arith)).calls
-
-pub enough_ending : (s : List ℕ) (at e : ℕ) → ending_from (length s + 1 + e) s at ≡ ending_of s at
-enough_ending s at e = (same_calls (length s + 1 + e) (length s + 1) s at (omega arith) (omega arith)).ending
