@@ -44,9 +44,6 @@ module _ (b : Balance) (units : b.unit_count ≤ length b.units) (wells : b.aqui
   counted : SameEntries (view_of b) (entries_of (take b.unit_count b.units) (take b.aquifer_count b.aquifers) b.given)
   counted = counted_entries (view_of b) b.units b.aquifers b.given units wells (λ k h. refl) (λ k h. refl)
 
-  pub counted_ready : Ready (units_of (take b.unit_count b.units))
-  counted_ready = ready_same (view_of b) _ (record { count = counted.units.count; unit = counted.units.unit }) r
-
   -- What a grant refuses early is asked of them.
   pub early_counted : (t : Title)
       → early_fault (entries_of (take b.unit_count b.units) (take b.aquifer_count b.aquifers) b.given) t ≡ early_fault (view_of b) t

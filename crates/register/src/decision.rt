@@ -19,10 +19,12 @@ fn grant_answer(b: &Balance, t: Title) -> Answer
 {
     let n = b.unit_count;
     let m = b.aquifer_count;
-    refusal::early(&Tree::new(&b.units[..n]), &b.aquifers[..m], b.given, t)?;
+    let tree = Tree::new(&b.units[..n]);
+    refusal::early(&tree, &b.aquifers[..m], b.given, t)?;
     let raised = effect::raised_units(b.units, t);
     let drawn = effect::raised_wells(b.aquifers, t);
-    if refusal::no_water(&Tree::new(&raised[..n]), &drawn[..m], t) {
+    let tried = Tree::new(&raised[..n]);
+    if refusal::no_water(&tried, &drawn[..m], t) {
         return Err(Refusal::NoWater);
     }
     Ok(())
