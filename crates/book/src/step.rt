@@ -39,7 +39,7 @@ impl Reader<'_> {
 
     // A UN closes the open unit, then opens the next.
     fn unit_step(&self) -> Result<Next, Failure>
-        ensures { result ≡ steps.unit_step self.now.book.now self.now.at self.now.progress.now.open self.now.progress.now.units self.now.progress.now.aquifers }
+        ensures { let p = self.now.progress.now in result ≡ steps.unit_step self.now.book.now self.now.at p.open p.units p.aquifers }
     {
         self.whole(31)?;
         located(closing_fault(self.progress), self.progress.open.at)?;
@@ -53,7 +53,7 @@ impl Reader<'_> {
 
     // An SU belongs to the open unit.
     fn soil_step(&self) -> Result<Next, Failure>
-        ensures { result ≡ steps.soil_step self.now.book.now self.now.at self.now.progress.now.open self.now.progress.now.units self.now.progress.now.aquifers }
+        ensures { let p = self.now.progress.now in result ≡ steps.soil_step self.now.book.now self.now.at p.open p.units p.aquifers }
     {
         self.whole(8)?;
         let plot = soil_record(self.book, self.at);
@@ -66,7 +66,7 @@ impl Reader<'_> {
 
     // A PR or PD belongs to the open unit.
     fn rain_step(&self, measure: Measure) -> Result<Next, Failure>
-        ensures { result ≡ steps.rain_step measure self.now.book.now self.now.at self.now.progress.now.open self.now.progress.now.units self.now.progress.now.aquifers }
+        ensures { let p = self.now.progress.now in result ≡ steps.rain_step measure self.now.book.now self.now.at p.open p.units p.aquifers }
     {
         self.whole(4)?;
         let rain = Rain {
@@ -88,7 +88,7 @@ impl Reader<'_> {
 
     // An AF belongs to the open unit.
     fn gauge_step(&self) -> Result<Next, Failure>
-        ensures { result ≡ steps.gauge_step self.now.book.now self.now.at self.now.progress.now.open self.now.progress.now.units self.now.progress.now.aquifers }
+        ensures { let p = self.now.progress.now in result ≡ steps.gauge_step self.now.book.now self.now.at p.open p.units p.aquifers }
     {
         self.whole(34)?;
         let gauged = gauged_record(self.book, self.at);
@@ -101,7 +101,7 @@ impl Reader<'_> {
 
     // An AC closes the open unit, then adds an aquifer.
     fn aquifer_step(&self) -> Result<Next, Failure>
-        ensures { result ≡ steps.aquifer_step self.now.book.now self.now.at self.now.progress.now.open self.now.progress.now.units self.now.progress.now.aquifers }
+        ensures { let p = self.now.progress.now in result ≡ steps.aquifer_step self.now.book.now self.now.at p.open p.units p.aquifers }
     {
         self.whole(22)?;
         located(closing_fault(self.progress), self.progress.open.at)?;
@@ -116,7 +116,7 @@ impl Reader<'_> {
     // What stands at the offset does to the description so far.
     #[tactic(auto, unfolding(crate::specs::Steps::next))]
     pub fn next(&self) -> Result<Next, Failure>
-        ensures { result ≡ steps.next self.now.book.now self.now.at self.now.progress.now.open self.now.progress.now.units self.now.progress.now.aquifers }
+        ensures { let p = self.now.progress.now in result ≡ steps.next self.now.book.now self.now.at p.open p.units p.aquifers }
     {
         let left = self.book.len() - self.at;
         if left == 0 {

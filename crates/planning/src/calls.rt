@@ -1,4 +1,5 @@
-// Keeping the current balance under a name, and going back to what is kept under one.
+// Keeping the current balance under a name, and going back to what is kept under one. The test's answer stays a flag beside the state, for the
+// reason that `decision` gives.
 ghost use Rattle.std.specs.Prelude.{◌≡◌};
 ghost use Rattle.planning.specs.State.{sound_state};
 ghost use Rattle.planning.specs.Calls as replies;

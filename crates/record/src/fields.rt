@@ -52,29 +52,17 @@ pub fn unit_record(s: &[u8], i: usize) -> UnitRecord
     requires { i + 31 ≤ length s.now }
     ensures { result ≡ records.unit_record s.now i }
 {
-    let downstream = bits8(s, i + 2);
-    let extraction = bits32(s, i + 3);
-    let exports = bits32(s, i + 7);
-    let imports = bits32(s, i + 11);
-    let returns = bits32(s, i + 15);
-    let evaporation = bits32(s, i + 19);
-    let storage = signed_bits32(s, i + 23);
-    let commitment = bits32(s, i + 27);
     UnitRecord {
         at: i,
-        downstream,
-        extraction,
-        exports,
-        imports,
-        returns,
-        evaporation,
-        storage,
-        commitment,
-        soils: 0,
-        hectares: 0,
-        weighted: 0,
-        years: 0,
-        sum: 0,
+        downstream: bits8(s, i + 2),
+        extraction: bits32(s, i + 3),
+        exports: bits32(s, i + 7),
+        imports: bits32(s, i + 11),
+        returns: bits32(s, i + 15),
+        evaporation: bits32(s, i + 19),
+        storage: signed_bits32(s, i + 23),
+        commitment: bits32(s, i + 27),
+        ..UnitRecord::default()
     }
 }
 
@@ -83,17 +71,12 @@ pub fn aquifer_record(s: &[u8], i: usize) -> Aquifer
     requires { i + 22 ≤ length s.now }
     ensures { result ≡ records.aquifer_record s.now i }
 {
-    let storage = signed_bits32(s, i + 2);
-    let natural = bits32(s, i + 6);
-    let pumped = bits32(s, i + 10);
-    let committed = bits32(s, i + 14);
-    let extraction = bits32(s, i + 18);
     Aquifer {
-        storage,
-        natural,
-        pumped,
-        committed,
-        extraction,
+        storage: signed_bits32(s, i + 2),
+        natural: bits32(s, i + 6),
+        pumped: bits32(s, i + 10),
+        committed: bits32(s, i + 14),
+        extraction: bits32(s, i + 18),
     }
 }
 
@@ -159,7 +142,6 @@ pub fn unit_of(u: UnitRecord) -> Unit
     requires { Closed u }
     ensures { result ≡ records.closed_unit u }
 {
-    let storage = u.storage;
     let years = Years {
         gauged: u.soils == 0,
         count: u.years,
@@ -173,7 +155,7 @@ pub fn unit_of(u: UnitRecord) -> Unit
         imports: u.imports,
         returns: u.returns,
         evaporation: u.evaporation,
-        storage,
+        storage: u.storage,
         commitment: u.commitment,
         runoff: runoff as u32,
     }

@@ -42,4 +42,4 @@ overflow_cast-result c =
 pub returns : goal.returns
 returns c =
     let stored : mag c.args.u.storage < 2 ^ 63 = omega arith in
-    rw (whole_ok c.args.u.storage stored, worked c)
+    rw (whole_ok c.args.u.storage stored, worked (goal.at.returns c).After-natural_runoff-runoff)
