@@ -5,7 +5,6 @@ use borrow.Author.Tests.{eq-eqb, ne_eqb}
 use Rattle.river.specs.Flow.{downstream, Ready}
 use Rattle.river.specs.Units.{units_of}
 use Rattle.river.proofs.Units.{ready_at}
-use Rattle.river.proofs.Passing.{onward_of}
 use Rattle.reach.proofs.Ways.{below_none, below_step}
 use Rattle.reach.proofs.below.+lies_below.Goals as goal
 use Rattle.reach.proofs.below.+lies_below.Goals.{In-Some}
@@ -20,12 +19,6 @@ next t c = omega (arith, rw c.units-units.ensures.units at c.from.ensures, c.in-
 step : (t : ℕ) (c : In-Some t) → lies_below (units_of c.args.tree.now) c.args.u c.args.w
     ≡ (eqb c.in-Some.next c.args.w || lies_below (units_of c.args.tree.now) c.in-Some.next c.args.w)
 step t c = below_step (units_of c.args.tree.now) (tree t c) c.args.u c.in-Some.next c.args.w c.requires (next t c)
-
-pub lies_below-requires : goal.lies_below-requires
-lies_below-requires t c =
-    let here = (goal.at.lies_below-requires t c).In-Some in
-    let b = onward_of (units_of c.args.tree.now) (tree t here) c.args.u c.in-Some.next c.requires (next t here) in
-    (omega (arith, b.later, b.within, (tree t here).few, c.decreases), b.within)
 
 pub returns-in-None : goal.returns-in-None
 returns-in-None t c = sym (below_none (units_of c.args.tree.now) c.args.u c.args.w (omega (arith, rw c.units-units.ensures.units at c.from.ensures, c.in-None.ensures)))
