@@ -30,12 +30,12 @@ use Rattle.river.specs.Wells.{well_availability}
 use Rattle.figures.specs.Figures.{WellsReady, aquifers_of}
 use Rattle.figures.proofs.Units.{unit_figures_same}
 use Rattle.basin.specs.Sound.{exists}
-use Rattle.basin.proofs.Soundness.{Exists, number_exists}
+use Rattle.basin.proofs.Soundness.{number_exists}
 use Rattle.reach.specs.Reach.{same_basin}
 use Rattle.reach.proofs.Units.{outlet_units, below_units}
 use Rattle.effect.specs.Room.{There, Names}
 use Rattle.effect.specs.Granted.{Named}
-use Rattle.refusal.specs.Grant.{past, overfills, overfull, in_deficit, wanting, dry, drained, no_water, downstream_transfer}
+use Rattle.refusal.specs.Grant.{past, overfills, overfull, in_deficit, wanting, dry, drained, no_water}
 use Rattle.refusal.specs.Steps.{entries_of, goes_down, missing_fault, then_answer, volume_fault, early_fault}
 
 -- Two views with the same units and the same aquifers.
