@@ -73,7 +73,7 @@ pub fn change_wells<D: Direction>(aquifers: &mut [Aquifer; Balance::AQUIFERS], t
 
 // The balance with every entry changed by what the title of a place adds, that place at an index, and so many numbers given.
 pub fn changed_balance<D: Direction>(
-    b: Balance,
+    mut b: Balance,
     place: Place,
     index: usize,
     given: usize,
@@ -83,10 +83,9 @@ pub fn changed_balance<D: Direction>(
     requires wells { WellArrayTakes D.left place.title b.aquifers }
     ensures { result ≡ effects.changed_balance D.op place.title (return_of place.title) b given (set b.titles index place) }
 {
-    let mut next = b;
-    change_units::<D>(&mut next.units, place.title);
-    change_wells::<D>(&mut next.aquifers, place.title);
-    next.titles[index] = place;
-    next.given = given;
-    next
+    change_units::<D>(&mut b.units, place.title);
+    change_wells::<D>(&mut b.aquifers, place.title);
+    b.titles[index] = place;
+    b.given = given;
+    b
 }
