@@ -36,7 +36,7 @@ not_at : (n a k : ℕ) → 0 < n → (k ≡ n - 1 → ⊥) → posts (post n a) 
 not_at n a k h q = elsewhere n a k (λ e. q (omega arith))
 
 -- An amount of 0 adds nothing.
-none : (n k : ℕ) → posts (post n 0) k ≡ 0
+pub none : (n k : ℕ) → posts (post n 0) k ≡ 0
 none n k = only_none (eqb n (suc k))
   where
     only_none : (t : Bool) → only naturals t 0 ≡ 0
@@ -52,7 +52,7 @@ module _ (op : ℕ → ℕ → ℕ) (neutral : (e : ℕ) → op e 0 ≡ e) where
   undrawn a = λ i. with_extraction a (neutral a.extraction i)
 
   -- Units changed at one number are all changed by what is posted there.
-  unit_at_lem : (us : List Unit) (n e x m b : ℕ) → 0 < n
+  pub unit_at_lem : (us : List Unit) (n e x m b : ℕ) → 0 < n
       → set us (n - 1) (changed_by op (get_or us (n - 1) empty_unit) e x m b)
       ≡ indexed (λ k u. changed_by op u (posts (post n e) k) (posts (post n x) k) (posts (post n m) k) (posts (post n b) k)) us
   unit_at_lem us n e x m b h =

@@ -1,2 +1,3 @@
 pub mod Taking
 pub mod Changing
+pub mod Returning

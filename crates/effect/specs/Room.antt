@@ -43,3 +43,10 @@ UnitArrayTakes left t us = UnitsTake left unit_limit (λ k. get_or us k empty_un
 
 abbrev pub WellArrayTakes : (ℕ → ℕ) → Title → List Aquifer → Type 0
 WellArrayTakes left t ws = WellsTake left aquifer_limit (λ k. get_or ws k empty_aquifer) (postings t (return_of t))
+
+-- The four entries of one unit leave room for these amounts.
+pub record Leaves (left : ℕ → ℕ) (u : Unit) (extraction exports imports returns : ℕ) : Type 0 where
+  pub of_extraction : extraction ≤ left u.extraction
+  pub of_exports : exports ≤ left u.exports
+  pub of_imports : imports ≤ left u.imports
+  pub of_returns : returns ≤ left u.returns
