@@ -5,7 +5,6 @@ use mathlib.Core.Path.{◌≡◌, refl, sym, ap, ap₂, subst, ◌∙◌}
 use mathlib.Core.Bool.{Bool, true, false, not, cond}
 use mathlib.Core.List.{List, [], ◌∷◌, ◌++◌}
 use lib.Dec.{eqb, ltb, leb}
-use lib.IntN.{pos}
 use lib.ListN.{length, get_or, take, length-append, get_or-append}
 use lib.Seq.{length-take-le, get_or-take, get_or_at, get_or-append-add}
 use native.Mathlib.Omega.{arith}
