@@ -14,7 +14,7 @@ use Rattle.record.specs.declared.CallAt.{CallAt}
 use Rattle.record.specs.declared.CallAt.TheVariants.{End, Fails, Asks}
 use Rattle.record.specs.Bytes.{bits8}
 use Rattle.record.specs.Record.{call_mark}
-use Rattle.record.specs.Calls.{whole_call, call_marked, call_at, calls_from, ending_from}
+use Rattle.record.specs.Calls.{whole_call, call_marked, call_at, calls_from, ending_from, calls_of, ending_of}
 
 abbrev Onward : List ℕ → ℕ → CallAt → Type 0
 Onward s at End = Unit {0}
@@ -69,3 +69,9 @@ same_calls zero g s at h k = absurd (omega arith)
 same_calls (suc f) zero s at h k = absurd (omega arith)
 same_calls (suc f) (suc g) s at h k =
     one_more f g s at (λ to a b. same_calls f g s to (omega arith) (omega arith)) (call_at s at) refl (at_onward s at)
+-- The allowance of records never runs out: with any larger allowance the calls of a book and their end are the same.
+pub enough_calls : (s : List ℕ) (at e : ℕ) → calls_from (length s + 1 + e) s at ≡ calls_of s at
+enough_calls s at e = (same_calls (length s + 1 + e) (length s + 1) s at (omega arith) (omega arith)).calls
+
+pub enough_ending : (s : List ℕ) (at e : ℕ) → ending_from (length s + 1 + e) s at ≡ ending_of s at
+enough_ending s at e = (same_calls (length s + 1 + e) (length s + 1) s at (omega arith) (omega arith)).ending

@@ -1,20 +1,24 @@
 -- No water, by the unit or the aquifer that gives; and over the units of a view alone. Assumes nothing.
 use Prim.Native.Nat.{ℕ, pred, ◌≤◌, ◌<◌}
-use mathlib.Core.Path.{◌≡◌, refl, sym}
-use mathlib.Core.Bool.{not, ◌&&◌, ◌||◌}
+use mathlib.Core.Path.{◌≡◌, refl, sym, ap, ◌∙◌}
+use mathlib.Core.Bool.{Bool, not, ◌&&◌, ◌||◌}
 use lib.Dec.{eqb}
 use native.Mathlib.Omega.{arith}
 use Rattle.laws.specs.Sum.{every}
+use Rattle.model.specs.declared.Refusal.TheVariants.{ReceiverBelow}
 use Rattle.model.specs.declared.Title.{Title}
 use Rattle.model.specs.declared.Title.TheVariants.{UnitWithdrawal, AquiferWithdrawal, UnitTransfer, AquiferTransfer, ReturningWithdrawal}
+use Rattle.model.specs.Fresh.{empty_place}
 use Rattle.model.specs.View.{View}
 use Rattle.river.proofs.Units.{alone}
 use Rattle.figures.proofs.Units.{unit_figures_alone}
 use Rattle.reach.proofs.Units.{outlet_alone, below_alone}
 use Rattle.effect.specs.Granted.{Named}
-use Rattle.refusal.specs.Grant.{in_deficit, dry, drained, no_water, downstream_transfer}
+use Rattle.refusal.specs.Grant.{in_deficit, dry, drained, no_water, downstream_transfer, overfull}
 use Rattle.refusal.specs.declared.Giver.TheVariants.{FromUnit, FromAquifer}
-use Rattle.refusal.specs.Steps.{giver, goes_down}
+use Rattle.refusal.specs.Steps.{giver, goes_down, missing_fault, then_answer, volume_fault, early_fault}
+use Rattle.model.specs.Answers.{refuse}
+use Rattle.model.specs.Entries.{volume_of}
 
 -- What is worked out over the units of a view alone is the same over the view.
 pub dry_alone : (v : View) (j : ℕ) → dry (alone v) j ≡ dry v j
@@ -31,6 +35,25 @@ goes_down_alone v (AquiferWithdrawal a x) = refl
 goes_down_alone v (UnitTransfer g r x) = downstream_alone v g r
 goes_down_alone v (AquiferTransfer a u x) = refl
 goes_down_alone v (ReturningWithdrawal a u r x) = refl
+
+-- A view without its titles, with so many numbers given.
+abbrev pub untitled : View → ℕ → View
+untitled v given =
+    record { units = v.units; unit = v.unit; aquifers = v.aquifers; aquifer = v.aquifer; given = given; place = λ k. empty_place }
+
+-- What a grant refuses before its water is looked at does not depend on the titles, but on how many numbers were given.
+pub early_untitled : (v : View) (t : Title) → early_fault (untitled v v.given) t ≡ early_fault v t
+early_untitled v t =
+    ap (λ (b : Bool). then_answer (missing_fault v.units v.aquifers t) (refuse ReceiverBelow b (volume_fault v.given (volume_of t) (overfull v t))))
+    (sym (goes_down_alone (untitled v v.given) t) ∙ goes_down_alone v t)
+
+-- Nor does 17 depend on them.
+pub water_untitled : (v : View) (given : ℕ) (t : Title) → no_water (untitled v given) t ≡ no_water v t
+water_untitled v given (UnitWithdrawal u r x) = sym (dry_alone (untitled v given) (pred u)) ∙ dry_alone v (pred u)
+water_untitled v given (AquiferWithdrawal a x) = refl
+water_untitled v given (UnitTransfer g r x) = sym (dry_alone (untitled v given) (pred g)) ∙ dry_alone v (pred g)
+water_untitled v given (AquiferTransfer a u x) = refl
+water_untitled v given (ReturningWithdrawal a u r x) = refl
 
 -- What gives is there, and there is no water where its basin is dry or the aquifer is drained.
 pub data Gives (v : View) (t : Title) : Type 0 where
