@@ -23,7 +23,8 @@ fn store(b: &mut Balance, p: &Progress)
     }
 }
 
-// The lowest-numbered unit whose downstream number is above the last unit's, if there is one.
+// The lowest-numbered unit whose downstream number is above the last unit's, if there is one. A rule of the project fixes that a loop over
+// units yields the first one at fault by `break`.
 fn first_missing(b: &Balance) -> Option<usize>
     requires { (view_of b.now).units ≤ unit_limit }
     ensures { result ≡ opening.missing (view_of b.now) }

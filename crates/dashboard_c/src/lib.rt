@@ -1,4 +1,5 @@
-// The functions of `dashboard` for C, as a static library: the interface of include/hasheqro.h.
+// The functions of `dashboard` for C, as a static library: the interface of include/hasheqro.h. A crate is a library or a static library, so
+// that each function that C calls stands in both.
 #![tactic(auto)]
 
 ghost use Rattle.std.specs.Prelude.{◌≡◌, ◌*◌};

@@ -135,7 +135,8 @@ pub fn called(call: Call, answer: Answer, given: usize) -> Outcome
     }
 }
 
-// Runs the calls of a book over a sound balance and puts a line for each.
+// Runs the calls of a book over a sound balance and puts a line for each. `calls::run_tested` runs them without lines: one loop for both would
+// be no plainer, since its contract would have to say what a function that it is handed does to the page.
 fn call_lines(s: &[u8], from: usize, balance: Balance, page: &mut Page) -> Ran
     requires { (length s.now ≤ 65536) × ((sound (view_of balance) ≡ true) × Fits 1048576 page.old) }
     ensures { printing.Printed s.now from balance page.old page.new result }

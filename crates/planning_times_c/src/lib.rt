@@ -1,4 +1,5 @@
-// The functions of `planning_times` for C, as a static library.
+// The functions of `planning_times` for C, as a static library. A crate is a library or a static library, so that each function that C calls
+// stands in both.
 #![tactic(auto)]
 
 ghost use Rattle.std.specs.Prelude.{◌≡◌};

@@ -1,4 +1,5 @@
-// The lines that the program prints. Each is a value that is put on a page. A line is at most 128 bytes long, a call's line at most 64.
+// The lines that the program prints. Each is a value that is put on a page. A line is at most 128 bytes long, a call's line at most 64. That the
+// page has room is asked at each line and not by a type, which would hold it for one length only.
 #![tactic(auto)]
 
 ghost use Rattle.text.specs.Page.{Fits, Puts};
