@@ -69,6 +69,7 @@ same_calls zero g s at h k = absurd (omega arith)
 same_calls (suc f) zero s at h k = absurd (omega arith)
 same_calls (suc f) (suc g) s at h k =
     one_more f g s at (λ to a b. same_calls f g s to (omega arith) (omega arith)) (call_at s at) refl (at_onward s at)
+
 -- The allowance of records never runs out: with any larger allowance the calls of a book and their end are the same.
 pub enough_calls : (s : List ℕ) (at e : ℕ) → calls_from (length s + 1 + e) s at ≡ calls_of s at
 enough_calls s at e = (same_calls (length s + 1 + e) (length s + 1) s at (omega arith) (omega arith)).calls
