@@ -27,7 +27,7 @@ use Rattle.effect.specs.Granted.{granted, raised_units, raised_wells, lacking, S
 use Rattle.effect.specs.Cancelled.{title_of, cancelled, without_title, lowered_units, Takable}
 use Rattle.effect.proofs.Changing.{unit_changed, aquifer_changed, plus_none}
 use Rattle.refusal.specs.Grant.{no_water}
-use Rattle.refusal.specs.Steps.{early_fault, entries_of}
+use Rattle.refusal.specs.Steps.{early_fault, entries_of, entries_view}
 use Rattle.refusal.proofs.Granting.{granting_of, granting_named, granted_ready, granted_wells_ready}
 use Rattle.refusal.proofs.Entries.{SameEntries, counted_entries, entries_wells_ready, early_same, water_same}
 use Rattle.register.specs.Cancel.{number_in_force}
@@ -90,8 +90,28 @@ module _ (b : Balance) (t : Title) (units : length b.units ≡ 64) (wells : leng
   )
 
   -- The water of the title, in them.
-  pub trial_water : no_water (entries_of raised drawn 0) t ≡ no_water (granted (view_of b) t) t
-  trial_water = water_same (granted (view_of b) t) _ same ready t named
+  pub counted_water : no_water (entries_of raised drawn 0) t ≡ no_water (granted (view_of b) t) t
+  counted_water = water_same (granted (view_of b) t) _ same ready t named
+
+  -- The same in the whole arrays, of which so many count.
+  whole : SameEntries (granted (view_of b) t) (entries_view (raised_units t b.units) b.unit_count (raised_wells t b.aquifers) b.aquifer_count 0)
+  whole =
+      let g = grantable_of b t e q in
+      record {
+        units = record { count = refl; unit = λ k h. unit_changed ◌+◌ plus_none lacking t b.units units g.units k };
+        count = refl;
+        aquifer = λ k h. aquifer_changed ◌+◌ plus_none lacking t b.aquifers wells g.wells k;
+      }
+
+  whole_water : no_water (entries_view (raised_units t b.units) b.unit_count (raised_wells t b.aquifers) b.aquifer_count 0) t
+      ≡ no_water (granted (view_of b) t) t
+  whole_water = water_same (granted (view_of b) t) _ whole ready t named
+
+-- The water of a title, in the arrays with the title in.
+module _ (b : Balance) (t : Title) (us : List Unit) (ws : List Aquifer) (z : Sized b) (e : sound (view_of b) ≡ true)
+    (q : early_fault (view_of b) t ≡ Ok tt) (u : us ≡ raised_units t b.units) (w : ws ≡ raised_wells t b.aquifers) where
+  pub trial_water : no_water (entries_view us b.unit_count ws b.aquifer_count 0) t ≡ no_water (granted (view_of b) t) t
+  trial_water = rw (u, w) (whole_water b t z.units z.aquifers e q)
 
 -- A number is in force, or it is not.
 module _ (v : View) (n : ℕ) where

@@ -1,3 +1,4 @@
 pub mod Decimal
+pub mod Digits
 pub mod Pages
 pub mod Writing

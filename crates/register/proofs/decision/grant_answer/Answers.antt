@@ -12,7 +12,7 @@ use Rattle.refusal.specs.Steps.{early_fault, entries_of}
 use Rattle.register.specs.declared.Reply.{Reply}
 use Rattle.register.proofs.Replies.{grantable_of, reply_early, reply_dry, reply_given}
 use Rattle.river.proofs.Units.{counted_units, ready_same}
-use Rattle.register.proofs.Trial.{length_raised, length_drawn, early_counted, trial, trial_water}
+use Rattle.register.proofs.Trial.{length_raised, length_drawn, early_counted, trial, counted_water}
 use Rattle.register.proofs.decision.grant_answer.Goals as goal
 use Rattle.register.proofs.decision.grant_answer.Goals.{Start, After-early, After-no_water, In_ok-early}
 
@@ -103,7 +103,7 @@ water c =
     let wells : length b.aquifers ≡ 32 = omega (arith, length_drawn c.args.t b.aquifers, ap length c.raised_wells-drawn.ensures) in
     rw c.new-tried.ensures at c.no_water.ensures
     ∙ (λ i. no_water (entries_of (take b.unit_count (c.raised_units-raised.ensures i)) (take b.aquifer_count (c.raised_wells-drawn.ensures i)) 0) c.args.t)
-    ∙ trial_water b c.args.t units wells c.requires (none_early (goal.at.After-no_water c).In_ok-early)
+    ∙ counted_water b c.args.t units wells c.requires (none_early (goal.at.After-no_water c).In_ok-early)
 
 pub returns-then-no_water : goal.returns-then-no_water
 returns-then-no_water c =
