@@ -7,7 +7,7 @@ mod step;
 pub use opening::read_book;
 
 // What a record does to a description: it ends it, opens a unit, belongs to the open unit, or adds an aquifer. `to` is the
-// offset of the next record.
+// offset of the next record. With four outcomes it is no Option.
 #[derive(Clone, Copy)]
 pub enum Next {
     Ends,

@@ -35,7 +35,7 @@ pub fn unit_figures(tree: &Tree, amounts: &Amounts) -> [UnitFigures; Balance::UN
     let mut all = [UnitFigures::default(); Balance::UNITS];
     for i in (0..units.len()).rev() {
         let unit = &units[i];
-        let committed = match usize::from(unit.downstream).checked_sub(1) {
+        let committed = match unit.drains_to() {
             None => u64::from(unit.commitment),
             Some(k) => {
                 let own = contribution(amounts.gained[i], amounts.lost[i]);

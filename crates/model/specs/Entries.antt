@@ -1,5 +1,5 @@
--- A unit and an aquifer with other entries, all else as it was; the volume and the place of a title. Assumes nothing.
-use Rattle.std.specs.Prelude.{ℕ, Bool}
+-- A unit and an aquifer with other entries, all else as it was; a unit's downstream unit; the volume and the place of a title. Assumes nothing.
+use Rattle.std.specs.Prelude.{ℕ, suc, Bool, ◌≡◌, Option, Some, None}
 use Rattle.model.specs.declared.Unit.{Unit}
 use Rattle.model.specs.declared.Aquifer.{Aquifer}
 use Rattle.model.specs.declared.Title.{Title}
@@ -20,6 +20,11 @@ with_entries u extraction exports imports returns =
       commitment = u.commitment;
       runoff = u.runoff;
     }
+
+-- The index of a unit's downstream unit is one less than its number; an outlet, whose downstream number is 0, has none.
+abbrev pub DrainsTo : Unit → Option ℕ → Type 0
+DrainsTo u None = u.downstream ≡ 0
+DrainsTo u (Some k) = u.downstream ≡ suc k
 
 -- An aquifer with this extraction.
 abbrev pub with_extraction : Aquifer → ℕ → Aquifer

@@ -11,7 +11,8 @@ mod ranges;
 pub use ranges::{are_terms, is_committed, is_onward, is_storage, is_term};
 
 // A basin unit: the number of its downstream unit (0 for an outlet), its entries with its titles in, and its natural runoff.
-// All volumes are thousand m³; a rise of storage is positive.
+// All volumes are thousand m³; a rise of storage is positive. The downstream number stays a number: a balance that is handed in may hold any,
+// and a wrong one is refused under the number of its fault.
 #[derive(Clone, Copy, Default)]
 pub struct Unit {
     pub downstream: u8,
@@ -36,7 +37,8 @@ pub struct Aquifer {
 }
 
 // A title is one of five kinds: a withdrawal from a unit or an aquifer, a transfer from a unit or an aquifer, and a withdrawal from an
-// aquifer whose return goes to a unit (document 02 [2]).
+// aquifer whose return goes to a unit. A rule of the project fixes that they are an enum, on which each step of the register matches. Units,
+// aquifers and uses stay numbers: a title that is handed in may hold any, and a wrong one is refused under the number of its fault.
 #[derive(Clone, Copy)]
 pub enum Title {
     UnitWithdrawal {
@@ -74,6 +76,7 @@ pub struct Place {
 }
 
 // Units and aquifers are numbered from 1 in file order: number n stands at index n - 1. So do titles, of which `given` numbers were given.
+// A rule of the project fixes the form: a struct by value, of arrays with counts beside them, since there is no heap.
 #[derive(Clone, Copy)]
 pub struct Balance {
     pub units: [Unit; Balance::UNITS],
@@ -165,11 +168,20 @@ impl Refusal {
 }
 
 impl Unit {
-    // A place of the balance that holds no unit.
+    // A place of the balance that holds no unit. Here and below, `empty` stays beside `Default`: its contract names the value as the fresh
+    // balance's does.
     pub fn empty() -> Self
         ensures { result ≡ fresh.empty_unit }
     {
         Unit::default()
+    }
+
+    // The index of the downstream unit, if the unit is no outlet.
+    #[inline]
+    pub fn drains_to(&self) -> Option<usize>
+        ensures { entries.DrainsTo self.now result }
+    {
+        usize::from(self.downstream).checked_sub(1)
     }
 }
 

@@ -23,7 +23,7 @@ pub fn is_storage(change: i64) -> bool
     ensures { result ≡ bounds.is_storage change }
 {
     let term = i64::from(Balance::TERM);
-    -term <= change && change <= term
+    (-term..=term).contains(&change)
 }
 
 // Only an outlet has a commitment.

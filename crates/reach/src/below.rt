@@ -12,7 +12,7 @@ pub fn lies_below(tree: &Tree, u: usize, w: usize) -> bool
     ensures { result ≡ lies_below (units_of tree.now) u w }
 {
     let units = tree.units();
-    match usize::from(units[u].downstream).checked_sub(1) {
+    match units[u].drains_to() {
         None => false,
         Some(next) => next == w || lies_below(tree, next, w),
     }

@@ -12,7 +12,7 @@ pub fn outlets(tree: &Tree) -> [usize; Balance::UNITS]
     let units = tree.units();
     let mut ends = [0; Balance::UNITS];
     for i in (0..units.len()).rev() {
-        ends[i] = match usize::from(units[i].downstream).checked_sub(1) {
+        ends[i] = match units[i].drains_to() {
             None => i,
             Some(k) => ends[k],
         };

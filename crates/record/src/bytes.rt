@@ -1,4 +1,5 @@
-// Fields of a record, little-endian.
+// Fields of a record, little-endian. A slice and an offset with `i + n ≤ length` stay parameters, here and where records are read: each field and
+// each record has its own length n, so a type that holds the bound would be one for each length.
 ghost use Rattle.std.specs.Prelude.{◌≡◌, ◌+◌, ◌≤◌, ◌<◌, length};
 ghost use Rattle.record.specs.Bytes as bytes;
 ghost use Rattle.record.specs.Bytes.{Half};
@@ -16,7 +17,7 @@ pub fn bits16(s: &[u8], i: usize) -> u16
     requires { i + 2 ≤ length s.now }
     ensures { Half s.now i result }
 {
-    u16::from_le_bytes([s[i], s[i + 1]])
+    u16::from_le_bytes(s[i..i + 2].try_into().unwrap())
 }
 
 // 32 bits.
@@ -24,7 +25,7 @@ pub fn bits32(s: &[u8], i: usize) -> u32
     requires { i + 4 ≤ length s.now }
     ensures { result ≡ bytes.bits32 s.now i }
 {
-    u32::from_le_bytes([s[i], s[i + 1], s[i + 2], s[i + 3]])
+    u32::from_le_bytes(s[i..i + 4].try_into().unwrap())
 }
 
 // 32 bits, signed.

@@ -12,11 +12,12 @@ use model::{
 use runoff::{Gauged, Plot};
 
 // A gauged sum that is negative or above 10,000,000 times the years.
-fn bad_sum(soils: u64, years: u64, sum: i64) -> bool
-    requires { years ≤ 50 }
-    ensures { result ≡ faults.bad_gauge soils years sum }
+fn bad_sum(u: UnitRecord) -> bool
+    requires { u.years ≤ 50 }
+    ensures { result ≡ faults.bad_gauge u.soils u.years u.sum }
 {
-    soils == 0 && (laws::below(sum) > 0 || laws::above(sum) > u64::from(Balance::TERM) * years)
+    u.soils == 0
+        && (laws::below(u.sum) > 0 || laws::above(u.sum) > u64::from(Balance::TERM) * u.years)
 }
 
 // Closing the open unit, if there is one: too few years, or a bad gauged sum.
@@ -31,7 +32,7 @@ pub fn closing_fault(p: &Progress) -> Answer
     if u.years < 20 {
         return Err(Refusal::FewYears);
     }
-    if bad_sum(u.soils, u.years, u.sum) {
+    if bad_sum(u) {
         return Err(Refusal::BadGauge);
     }
     Ok(())
@@ -129,7 +130,8 @@ fn gauge_outside(y: &Gauged) -> bool
         || !is_storage(y.storage)
 }
 
-// The fault of an AF.
+// The fault of an AF. It looks like a rain's, but an AF wants a unit without soil records, and tests its own fields: one function over both would
+// take each test as a parameter.
 pub fn gauge_fault(p: &Progress, y: &Gauged) -> Answer
     ensures { result ≡ faults.gauge_fault p.now.units p.now.aquifers p.now.open (faults.gauged_outside y.now) }
 {

@@ -10,13 +10,6 @@ use crate::{CallMark, Mark, UnitRecord};
 use model::{Aquifer, Unit};
 use runoff::{Gauged, Plot, Years};
 
-// The two letters stand at the two bytes.
-pub fn spells(a: u8, b: u8, x: u8, y: u8) -> bool
-    ensures { result ≡ records.spells a b x y }
-{
-    [a, b] == [x, y]
-}
-
 // The call that two bytes are the mark of, if they are.
 pub(crate) fn call_mark(a: u8, b: u8) -> Option<CallMark>
     ensures { result ≡ records.call_mark a b }
@@ -118,11 +111,12 @@ pub fn with_soil(u: UnitRecord, plot: &Plot) -> UnitRecord
 {
     let area = u64::from(plot.hectares);
     let weighted = area * plot.coefficient();
-    let mut next = u;
-    next.soils = u.soils + 1;
-    next.hectares = u.hectares + area;
-    next.weighted = u.weighted + weighted;
-    next
+    UnitRecord {
+        soils: u.soils + 1,
+        hectares: u.hectares + area,
+        weighted: u.weighted + weighted,
+        ..u
+    }
 }
 
 // The unit with one year more.
@@ -131,10 +125,11 @@ pub fn with_year(u: UnitRecord, year: i64) -> UnitRecord
     requires year_range { YearRange year }
     ensures { result ≡ records.with_year u year }
 {
-    let mut next = u;
-    next.years = u.years + 1;
-    next.sum = u.sum + year;
-    next
+    UnitRecord {
+        years: u.years + 1,
+        sum: u.sum + year,
+        ..u
+    }
 }
 
 // The unit of the balance that a closed unit gives. Its runoff is proved to fit the cast: `try_from` would add a branch that never runs.

@@ -13,13 +13,14 @@ pub use bytes::{bits8, bits16, bits32, signed_bits32};
 pub use calls::call_at;
 pub use fault::{aquifer_fault, closing_fault, gauge_fault, rain_fault, soil_fault, unit_fault};
 pub use fields::{
-    aquifer_record, gauged_record, mark_of, soil_record, spells, unit_of, unit_record, with_soil,
-    with_year,
+    aquifer_record, gauged_record, mark_of, soil_record, unit_of, unit_record, with_soil, with_year,
 };
 use model::{Answer, Call, Refusal};
 
 // A unit as its book describes it: the offset of its UN mark, the fields of its UN, and of the records after it how many soil records
 // there are, their hectares and weighted hectares, how many years there are and their sum (rain years in 6,000,000,000ths).
+// It holds no `Unit` and no `Years`: a unit has a runoff, which only closing gives, and years have a flag, which `soils` gives. It holds no `Soils`:
+// the definitions of the records and of their faults name each of its fields.
 #[derive(Clone, Copy, Default)]
 pub struct UnitRecord {
     pub at: usize,
@@ -38,7 +39,8 @@ pub struct UnitRecord {
     pub sum: i64,
 }
 
-// How far a description is read: how many units and aquifers there are, and the open unit, which is the last.
+// How far a description is read: how many units and aquifers there are, and the open unit, which is the last. The open unit is no Option: the
+// faults count the units, and there is an open one exactly where that count is not 0.
 #[derive(Clone, Copy, Default)]
 pub struct Progress {
     pub units: usize,
@@ -70,7 +72,7 @@ pub enum CallMark {
 }
 
 // What stands at an offset after the description: nothing more, a record that fails with 1 or 2, or a call and the offset of the next
-// record.
+// record. With three outcomes it is no Option and no Result.
 #[derive(Clone, Copy)]
 pub enum CallAt {
     End,

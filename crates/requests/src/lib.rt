@@ -14,7 +14,7 @@ pub enum OwnMark {
 }
 
 // What stands at an offset after the description: nothing more, a record that is short or unknown, a call of the register, a keeping or a
-// return. `to` is the offset of the next record.
+// return. `to` is the offset of the next record. With five outcomes it is no Option and no Result.
 #[derive(Clone, Copy)]
 pub enum RecordAt {
     End,

@@ -26,8 +26,8 @@ pub fn loss(u: &Unit) -> u64
         + laws::above(u.storage)
 }
 
-// What the forward pass over the units works out, with 0 in the unused places. An array for each amount, since what a unit gathers is stated
-// of one array at a time: an array of structs is no plainer there.
+// What the forward pass over the units works out, with 0 in the unused places. An array for each amount, since the definitions state what a
+// unit gathers of one array, and the running totals of two: an array of structs is no plainer there.
 #[derive(Drop)]
 pub struct Amounts {
     // All that is gained, and lost, at each unit and above it.
@@ -67,7 +67,7 @@ impl Amounts {
             let less = self.lost[i] + loss(u);
             self.gained[i] = more;
             self.lost[i] = less;
-            if let Some(k) = usize::from(u.downstream).checked_sub(1) {
+            if let Some(k) = u.drains_to() {
                 self.gained[k] += more;
                 self.lost[k] += less;
                 self.before[i] = self.arrived[k];

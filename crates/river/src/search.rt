@@ -17,20 +17,19 @@ impl Tree<'_> {
     {
         let units = self.units();
         let mut arrived = [0; Balance::UNITS];
-        let mut rest = units.iter().enumerate();
-        // A loop that yields the unit at fault by a break: a rule of the project fixes this form.
-        loop {
-            let Some((i, u)) = rest.next() else {
-                break None;
-            };
-            let gained = arrived[i] + gain(u);
-            let lost = loss(u);
-            if gained < lost {
-                break Some(i);
+        // A rule of the project fixes that a loop over units yields the first one at fault by `break`.
+        'search: {
+            for (i, u) in units.iter().enumerate() {
+                let gained = arrived[i] + gain(u);
+                let lost = loss(u);
+                if gained < lost {
+                    break 'search Some(i);
+                }
+                if let Some(k) = u.drains_to() {
+                    arrived[k] += gained - lost;
+                }
             }
-            if let Some(k) = usize::from(u.downstream).checked_sub(1) {
-                arrived[k] += gained - lost;
-            }
+            None
         }
     }
 }

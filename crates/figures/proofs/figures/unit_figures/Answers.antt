@@ -13,7 +13,7 @@ use Rattle.model.specs.declared.Unit.{Unit}
 use Rattle.figures.specs.Figures.{unit_figures, no_unit_figures, all_unit_figures}
 use Rattle.figures.proofs.Units.{figures_from_lem}
 use Rattle.figures.proofs.figures.unit_figures.Goals as goal
-use Rattle.figures.proofs.figures.unit_figures.Goals.{in-None, in-Some, After-contribution-own, In-loop-i, Joined-checked_sub}
+use Rattle.figures.proofs.figures.unit_figures.Goals.{in-None, in-Some, After-contribution-own, In-loop-i, Joined-drains_to}
 
 pub loop-i-init : goal.loop-i-init
 loop-i-init c =
@@ -42,7 +42,7 @@ shared c =
     let v = units_of c.units-units.result.now in
     let j = c.loop-i.i - 1 in
     let h = passed (goal.at.After-contribution-own c).In-loop-i in
-    let b = onward_of v c.units-units.ensures.ready j c.in-Some.k h (omega (arith, c.from.ensures, c.in-Some.ensures)) in
+    let b = onward_of v c.units-units.ensures.ready j c.in-Some.k h c.in-Some.ensures in
     share_of v c.units-units.ensures.ready c.args.amounts.now (flows (goal.at.After-contribution-own c).In-loop-i) j c.in-Some.k h b _ _
     (ap (λ (x : UnitFigures). x.committed) (c.loop-i.invariant.done c.in-Some.k (omega (arith, b.later)) b.within)) c.contribution-own.ensures
 
@@ -53,18 +53,18 @@ pub share_above-committed-requires : goal.share_above-committed-requires
 share_above-committed-requires c = (shared (goal.at.share_above-committed-requires c).After-contribution-own).within
 
 -- The unit's committed volume.
-volume_is : (c : Joined-checked_sub) → c.match-checked_sub.committed ≡ committed (units_of c.units-units.result.now) (c.loop-i.i - 1)
+volume_is : (c : Joined-drains_to) → c.match-drains_to.committed ≡ committed (units_of c.units-units.result.now) (c.loop-i.i - 1)
 volume_is c =
     let v = units_of c.units-units.result.now in
     let j = c.loop-i.i - 1 in
     let r = c.units-units.ensures.ready in
-    let h = passed (goal.at.Joined-checked_sub c).In-loop-i in
-    elim c.match-checked_sub.branch [
-      | in-None w ↦ w.committed-is ∙ w.from-committed.ensures ∙ sym (committed_outlet v j (omega (arith, c.from.ensures, w.in-None.ensures)))
+    let h = passed (goal.at.Joined-drains_to c).In-loop-i in
+    elim c.match-drains_to.branch [
+      | in-None w ↦ w.committed-is ∙ w.from-committed.ensures ∙ sym (committed_outlet v j w.in-None.ensures)
       | in-Some w ↦
           let k = w.in-Some.k in
-          let b = onward_of v r j k h (omega (arith, c.from.ensures, w.in-Some.ensures)) in
-          let s = share_of v r c.args.amounts.now (flows (goal.at.Joined-checked_sub c).In-loop-i) j k h b _ _
+          let b = onward_of v r j k h w.in-Some.ensures in
+          let s = share_of v r c.args.amounts.now (flows (goal.at.Joined-drains_to c).In-loop-i) j k h b _ _
           (ap (λ (x : UnitFigures). x.committed) (c.loop-i.invariant.done k (omega (arith, b.later)) b.within)) w.contribution-own.ensures in
           w.committed-is ∙ w.share_above-committed.ensures ∙ s.gets
     ]
@@ -75,7 +75,7 @@ invariant_of-split c =
     let j = c.loop-i.i - 1 in
     let here = (goal.at.invariant_of-split c).In-loop-i in
     let h = passed here in
-    rw ((flows here).totals.each_arrived j h, volume_is (goal.at.invariant_of-split c).Joined-checked_sub)
+    rw ((flows here).totals.each_arrived j h, volume_is (goal.at.invariant_of-split c).Joined-drains_to)
     (record { splits = splits v c.units-units.ensures.ready j h })
 
 pub of_unit-requires : goal.of_unit-requires
@@ -96,7 +96,7 @@ loop-i-preserved c =
     let f = flows (goal.at.loop-i-preserved c).In-loop-i in
     let e : c.loop-i.i ≡ suc j = omega arith in
     let x = figures_from_lem v j _ _ _ _ c.of_unit.result (f.gained.each j h) (f.lost.each j h) (f.totals.each_arrived j h)
-    (volume_is (goal.at.loop-i-preserved c).Joined-checked_sub) c.of_unit.ensures in
+    (volume_is (goal.at.loop-i-preserved c).Joined-drains_to) c.of_unit.ensures in
     filled_down_more 64 no_unit_figures (unit_figures v) v.units j c.loop-i.all _ (omega (arith, c.units-units.ensures.ready.few)) h x
     (rw e at c.loop-i.invariant)
 

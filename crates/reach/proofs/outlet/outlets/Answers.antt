@@ -18,11 +18,11 @@ loop-i-preserved c =
     let j = c.loop-i.i - 1 in
     let h : j < length c.units-units.result.now = omega arith in
     let e : c.loop-i.i ≡ suc j = omega arith in
-    let found : c.match-checked_sub.ends ≡ outlet v j =
-    elim c.match-checked_sub.branch [
-      | in-None w ↦ w.ends-is ∙ sym (outlet_self v j (omega (arith, c.from.ensures, w.in-None.ensures)))
+    let found : c.match-drains_to.ends ≡ outlet v j =
+    elim c.match-drains_to.branch [
+      | in-None w ↦ w.ends-is ∙ sym (outlet_self v j w.in-None.ensures)
       | in-Some w ↦
-          let d : downstream v j ≡ suc w.in-Some.k = omega (arith, c.from.ensures, w.in-Some.ensures) in
+          let d : downstream v j ≡ suc w.in-Some.k = w.in-Some.ensures in
           let b = onward_of v c.units-units.ensures.ready j w.in-Some.k h d in
           w.ends-is ∙ c.loop-i.invariant.done w.in-Some.k (omega (arith, b.later)) b.within ∙ sym (upstream_same v c.units-units.ensures.ready j w.in-Some.k h d)
     ] in

@@ -31,7 +31,7 @@ overflow_add-less c =
 onward : (c : In-Some) → Onward (units_of c.units-units.result.now) c.loop-i.i c.in-Some.k
 onward c =
     onward_of (units_of c.units-units.result.now) c.units-units.ensures.ready c.loop-i.i c.in-Some.k c.loop-i-test.true
-    (omega (arith, c.from.ensures, c.in-Some.ensures))
+    c.in-Some.ensures
 
 pub overflow_add-self : goal.overflow_add-self
 overflow_add-self c =
@@ -79,13 +79,13 @@ loop-i-preserved c =
     let g = more_is (goal.at.loop-i-preserved c).After-gain in
     let l = less_is (goal.at.loop-i-preserved c).After-loss in
     rw (add-one i)
-    (elim c.match-checked_sub.branch [
+    (elim c.match-drains_to.branch [
       | in-Some w ↦
-          let b = onward_of v r i w.in-Some.k h (omega (arith, c.from.ensures, w.in-Some.ensures)) in
+          let b = onward_of v r i w.in-Some.k h w.in-Some.ensures in
           let o : w.contribution.result ≡ contribution v i = omega (arith, w.contribution.ensures, g, l, contribution_is v i) in
           rw w.self-is (passed_on v r i h c.loop-i.self w.in-Some.k _ _ _ g l o b c.loop-i.invariant)
       | in_default w ↦
-          rw w.self-is (passed_out v r i h c.loop-i.self _ _ g l (omega (arith, c.from.ensures, w.in_default.ensures)) c.loop-i.invariant)
+          rw w.self-is (passed_out v r i h c.loop-i.self _ _ g l w.in_default.ensures c.loop-i.invariant)
     ])
 
 pub returns : goal.returns
