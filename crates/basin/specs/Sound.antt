@@ -16,7 +16,7 @@ use Rattle.river.specs.Flow.{flow}
 use Rattle.figures.specs.Recharge.{is_recharged}
 use Rattle.titles.specs.Adds.{titled}
 use Rattle.titles.specs.declared.Sums.{Sums}
-use Rattle.titles.specs.declared.Slot.TheVariants.{Extraction, Exports, Imports, Returns, WellExtraction}
+use Rattle.titles.specs.Slot.{Extraction, Exports, Imports, Returns, WellExtraction}
 -- A term runs from 0 to 10,000,000, a storage change from −10,000,000 to 10,000,000, and only an outlet has a commitment.
 pub use Rattle.model.specs.Ranges.{is_term, is_storage, is_committed}
 
