@@ -1,4 +1,4 @@
--- What `all` and `any` answer over the numbers below one: whether the test holds at every place, and at some place. Assumes nothing.
+-- What `all` and `any` answer over the numbers below one and over pairs: whether the test holds at every place, and at some place. Assumes nothing.
 use Prim.Native.Nat.{ℕ, zero, suc, ◌≤◌}
 use mathlib.Core.Path.{◌≡◌, refl, sym, ap, ◌∙◌}
 use mathlib.Core.Bool.{Bool, true, false, not, ◌&&◌, ◌||◌}
@@ -12,13 +12,14 @@ use Rattle.std.proofs.iter.Yields.{nat_range_steps}
 use Rattle.std.specs.declared.option.Option.{Option}
 use Rattle.std.specs.Fn.{Called}
 use Rattle.std.specs.Iterator.{YieldsThen}
-use Rattle.std.specs.List.{list_all, list_any, range_with_len, FoldsTo}
+use Rattle.std.specs.List.{list_all, list_any, range_with_len, zip, FoldsTo}
 use Rattle.std.specs.Option.{MatchOption}
 use Rattle.std.specs.declared.ops.Range.{Range}
 use Rattle.std.proofs.lemmas.Iterator.{YieldsList-from_range}
-use Rattle.std.proofs.lemmas.Iterator.Search.{all_from_yields_List, any_from_yields_List}
+use Rattle.std.proofs.lemmas.Iterator.Search.{all_from_yields_List}
 use Rattle.std.proofs.lemmas.List.Folds.{list_all_more}
 use Rattle.std.proofs.lemmas.List.FromFn.{length-range_with_len, get_or-range_with_len}
+use Rattle.std.proofs.lemmas.Slice.Zip.{length-zip, get_or-zip}
 use Rattle.laws.specs.Sum.{every}
 use Rattle.laws.proofs.Every.{every_same}
 
@@ -34,6 +35,20 @@ module _ {X : Type 0} (p : X → Bool) (xs : List X) (d : X) where
 
   pub all_every : list_all p xs ≡ every (length xs) (λ k. p (get_or xs k d))
   all_every = ap (list_all p) (sym (take-length xs)) ∙ taken_every (length xs) (omega arith)
+
+-- A test of pairs holds of each of the first n pairs of two lists exactly where it holds at each of the first n places.
+pub zip_taken : {A B : Type 0} (p : A × B → Bool) (ks : List A) (vs : List B) (a : A) (b : B) (n : ℕ) → n ≤ length ks → n ≤ length vs
+    → list_all p (take n (zip ks vs)) ≡ every n (λ k. p (get_or ks k a, get_or vs k b))
+zip_taken p ks vs a b n g h =
+    taken_every p (zip ks vs) (a, b) n (omega (arith, length-zip ks vs))
+    ∙ every_same n _ _ (λ k l. ap p (get_or-zip ks vs k (a, b) (omega arith) (omega arith)))
+
+-- And of every pair where the first list is no longer than the second.
+pub zip_every : {A B : Type 0} (p : A × B → Bool) (ks : List A) (vs : List B) (a : A) (b : B) → length ks ≤ length vs
+    → list_all p (zip ks vs) ≡ every (length ks) (λ k. p (get_or ks k a, get_or vs k b))
+zip_every p ks vs a b h =
+    ap (list_all p) (sym (take-length (zip ks vs)) ∙ ap (λ (m : ℕ). take m (zip ks vs)) (length-zip ks vs ∙ omega arith))
+    ∙ zip_taken p ks vs a b (length ks) (omega arith) h
 
 -- So it does of the numbers below one.
 pub below_every : (t : ℕ → Bool) (n : ℕ) → list_all t (range_with_len 0 n) ≡ every n t
@@ -55,16 +70,11 @@ some_not : (a b c : Bool) → b ≡ not c → (a || b) ≡ not (not a && c)
 some_not true b c e = refl
 some_not false b c e = e
 
-any_every : (t : ℕ → Bool) (xs : List ℕ) → list_any t xs ≡ not (list_all (λ x. not (t x)) xs)
+any_every : {X : Type 0} (t : X → Bool) (xs : List X) → list_any t xs ≡ not (list_all (λ x. not (t x)) xs)
 any_every t [] = refl
 any_every t (x ∷ xs) = some_not (t x) _ _ (any_every t xs)
 
--- The answer of `any` on the numbers below n, by a closure that computes a test.
-pub some_from_any : {F : Type 0} {g : Mut F (ℕ × Unit {0}) Bool} {u : Range ℕ} (test : ℕ → Bool) (n : ℕ) (f : F) (r : Bool)
-    → (xs : List ℕ) × (o : Option ℕ) × (j : F) × YieldsThen nat_range_steps (record { start = 0; end = n }) xs o u
-    × FoldsTo (λ p x q. Called g p (x, tt) false q) f xs j × MatchOption o (r ≡ false) (λ x. (r ≡ true) × ((h : F) × Called g j (x, tt) true h))
-    → ((x : ℕ) (b : Bool) (q : F) → Called g f (x, tt) b q → (q ≡ f) × (b ≡ test x)) → r ≡ not (every n (λ k. not (test k)))
-some_from_any {u = u} test n f r ran answers =
-    any_from_yields_List test u f r ran (YieldsList-from_range 0 n n refl (omega arith)) answers
-    ∙ any_every test (range_with_len 0 n)
-    ∙ ap not (below_every (λ k. not (test k)) n)
+-- So a test of pairs holds of some pair of two lists, where the first is no longer than the second.
+pub zip_some : {A B : Type 0} (p : A × B → Bool) (ks : List A) (vs : List B) (a : A) (b : B) → length ks ≤ length vs
+    → list_any p (zip ks vs) ≡ not (every (length ks) (λ k. not (p (get_or ks k a, get_or vs k b))))
+zip_some p ks vs a b h = any_every p (zip ks vs) ∙ ap not (zip_every (λ q. not (p q)) ks vs a b h)

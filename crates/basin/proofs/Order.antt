@@ -20,7 +20,7 @@ use Rattle.river.proofs.Units.{SameUnits, flow_same}
 use Rattle.river.proofs.Flows.{flow_parts}
 use Rattle.titles.specs.Titled.{TitledAll}
 use Rattle.titles.specs.declared.Sums.{Sums}
-use Rattle.titles.specs.declared.Slot.TheVariants.{Extraction, Exports, Imports, Returns, WellExtraction}
+use Rattle.titles.specs.Slot.{Extraction, Exports, Imports, Returns, WellExtraction}
 use Rattle.basin.specs.Sound
 use Rattle.basin.proofs.Chains.{both_hold}
 use Rattle.basin.proofs.Ranges.{less_leb}

@@ -25,7 +25,7 @@ use Rattle.river.specs.Wells.{recharge}
 use Rattle.figures.specs.Recharge.{is_recharged}
 use Rattle.figures.specs.Figures.{WellsReady}
 use Rattle.titles.specs.Adds.{titled}
-use Rattle.titles.specs.declared.Slot.TheVariants.{Extraction, Exports, Imports, Returns, WellExtraction}
+use Rattle.titles.specs.Slot.{Extraction, Exports, Imports, Returns, WellExtraction}
 use Rattle.basin.specs.Sound
 use Rattle.laws.proofs.Every.{both, every_each, each_every}
 use Rattle.basin.proofs.Chains.{both_hold, either, first_holds, second_holds}

@@ -9,6 +9,8 @@ use Rattle.model.specs.declared.Title.{Title}
 use Rattle.model.specs.declared.Title.TheVariants.{UnitWithdrawal, AquiferWithdrawal, UnitTransfer, AquiferTransfer, ReturningWithdrawal}
 use Rattle.model.specs.declared.Place.{Place}
 use Rattle.model.specs.Fresh.{empty_unit, empty_aquifer, empty_place}
+use Rattle.model.specs.declared.Refusal.TheVariants.{NoSuchPlace, NoSuchUse}
+use Rattle.model.specs.Answers.{Answer, accepted, refuse}
 use Rattle.model.specs.View.{View}
 use Rattle.model.specs.Limits.{unit_limit, aquifer_limit, title_limit}
 use Rattle.model.specs.Ranges.{is_onward, are_terms, aquifer_within}
@@ -16,7 +18,7 @@ use Rattle.river.specs.Flow.{flow}
 use Rattle.figures.specs.Recharge.{is_recharged}
 use Rattle.titles.specs.Adds.{titled}
 use Rattle.titles.specs.declared.Sums.{Sums}
-use Rattle.titles.specs.declared.Slot.TheVariants.{Extraction, Exports, Imports, Returns, WellExtraction}
+use Rattle.titles.specs.Slot.{Extraction, Exports, Imports, Returns, WellExtraction}
 -- A term runs from 0 to 10,000,000, a storage change from −10,000,000 to 10,000,000, and only an outlet has a commitment.
 pub use Rattle.model.specs.Ranges.{is_term, is_storage, is_committed}
 
@@ -53,6 +55,15 @@ sound_title units aquifers (AquiferWithdrawal a v) = exists aquifers a && is_vol
 sound_title units aquifers (UnitTransfer g r v) = exists units g && (exists units r && is_volume v)
 sound_title units aquifers (AquiferTransfer a u v) = exists aquifers a && (exists units u && is_volume v)
 sound_title units aquifers (ReturningWithdrawal a u r v) = exists aquifers a && (exists units u && (exists 7 r && is_volume v))
+
+-- A title that names a unit, an aquifer or a use that is not there, of so many units and aquifers.
+abbrev pub missing_fault : ℕ → ℕ → Title → Answer
+missing_fault units aquifers (UnitWithdrawal u r x) = refuse NoSuchPlace (not (exists units u)) (refuse NoSuchUse (not (exists 7 r)) accepted)
+missing_fault units aquifers (AquiferWithdrawal a x) = refuse NoSuchPlace (not (exists aquifers a)) accepted
+missing_fault units aquifers (UnitTransfer g r x) = refuse NoSuchPlace (not (exists units g && exists units r)) accepted
+missing_fault units aquifers (AquiferTransfer a u x) = refuse NoSuchPlace (not (exists aquifers a && exists units u)) accepted
+missing_fault units aquifers (ReturningWithdrawal a u r x) =
+    refuse NoSuchPlace (not (exists aquifers a && exists units u)) (refuse NoSuchUse (not (exists 7 r)) accepted)
 
 abbrev pub sound_place : ℕ → ℕ → Place → Bool
 sound_place units aquifers p = not p.in_force || sound_title units aquifers p.title

@@ -11,7 +11,8 @@ use figures::{AquiferFigures, UnitFigures};
 use model::{Answer, Balance};
 pub use test::sound;
 
-// The reply of reading the figures: the answer, and the figures of each unit and aquifer under its number less one.
+// The reply of reading the figures: the answer, and the figures of each unit and aquifer under its number less one. The answer stands beside
+// the figures, since a refused call is promised 0 in every figure.
 #[derive(Clone, Copy)]
 pub struct Figures {
     pub answer: Answer,

@@ -1,41 +1,56 @@
-// The fields of a title.
+// The fields of a title. Each step matches on its kind: a rule of the project.
 ghost use Rattle.std.specs.Prelude.{◌≡◌, ◌&&◌};
 ghost use Rattle.basin.specs.Sound as sounds;
 
-use model::{Title, is_term};
+use model::{Answer, Balance, Refusal, Title};
+
+// How many uses there are.
+const USES: usize = 7;
 
 // A number from 1 to the last.
 pub fn exists(last: usize, number: u8) -> bool
     ensures { result ≡ sounds.exists last number }
 {
-    0 < number && usize::from(number) <= last
+    (1..=last).contains(&usize::from(number))
 }
 
 // A volume is not 0 and not above 10,000,000.
 pub fn is_volume(volume: u32) -> bool
     ensures { result ≡ sounds.is_volume volume }
 {
-    0 < volume && is_term(volume)
+    (1..=Balance::TERM).contains(&volume)
 }
 
-// A title's units, aquifers and use exist, and its volume is in its range. The answer stays a truth value: the test for 0 asks for no more,
-// and the register names the refusal of each part of a call by itself.
-pub fn title_sound(t: Title, units: usize, aquifers: usize) -> bool
-    ensures { result ≡ sounds.sound_title units aquifers t }
+// A title that names a unit, an aquifer or a use that is not there, of n units and m aquifers.
+pub fn missing(t: Title, n: usize, m: usize) -> Answer
+    ensures { result ≡ sounds.missing_fault n m t }
 {
-    let there = match t {
-        Title::UnitWithdrawal { unit, usage, .. } => exists(units, unit) && exists(7, usage),
-        Title::AquiferWithdrawal { aquifer, .. } => exists(aquifers, aquifer),
-        Title::UnitTransfer { from, to, .. } => exists(units, from) && exists(units, to),
+    let (places, uses) = match t {
+        Title::UnitWithdrawal { unit, usage, .. } => (exists(n, unit), exists(USES, usage)),
+        Title::AquiferWithdrawal { aquifer, .. } => (exists(m, aquifer), true),
+        Title::UnitTransfer { from, to, .. } => (exists(n, from) && exists(n, to), true),
         Title::AquiferTransfer { aquifer, unit, .. } => {
-            exists(aquifers, aquifer) && exists(units, unit)
+            (exists(m, aquifer) && exists(n, unit), true)
         }
         Title::ReturningWithdrawal {
             aquifer,
             unit,
             usage,
             ..
-        } => exists(aquifers, aquifer) && exists(units, unit) && exists(7, usage),
+        } => (exists(m, aquifer) && exists(n, unit), exists(USES, usage)),
     };
-    there && is_volume(t.volume())
+    if !places {
+        return Err(Refusal::NoSuchPlace);
+    }
+    if !uses {
+        return Err(Refusal::NoSuchUse);
+    }
+    Ok(())
+}
+
+// A title's units, aquifers and use exist, and its volume is in its range.
+pub fn title_sound(t: Title, units: usize, aquifers: usize) -> bool
+    ensures { result ≡ sounds.sound_title units aquifers t }
+{
+    missing(t, units, aquifers).is_ok() && is_volume(t.volume())
 }

@@ -11,7 +11,7 @@ use figures::{AquiferFigures, UnitFigures};
 use model::{Balance, Refusal};
 use river::Tree;
 
-// 0 in every place for units.
+// 0 in every place for units. This and `no_aquifers` are two arrays of different types and sizes: a generic one would be no shorter.
 fn no_units() -> [UnitFigures; Balance::UNITS]
     ensures { result ≡ replicate unit_limit no_unit_figures }
 {
@@ -26,6 +26,7 @@ fn no_aquifers() -> [AquiferFigures; Balance::AQUIFERS]
 }
 
 // The figures of every unit and aquifer. A balance that is not sound is refused with 0, and with 0 in every figure.
+// A balance is handed by value: a rule of the project.
 pub fn figures(b: Balance) -> Figures
     ensures { result ≡ replies.figures_reply (view_of b) }
 {

@@ -43,7 +43,12 @@ fn flowing(amounts: &Amounts, n: usize) -> bool
     requires { n ≤ unit_limit }
     ensures { result ≡ sounds.balanced n amounts.now.gained amounts.now.lost }
 {
-    (0..n).all(|j| amounts.lost[j] <= amounts.gained[j])
+    amounts
+        .lost
+        .iter()
+        .zip(&amounts.gained)
+        .take(n)
+        .all(|(lost, gained)| lost <= gained)
 }
 
 // The test for 0: what the forward pass gives of the units, where the balance is sound.
@@ -66,7 +71,7 @@ pub fn tested(b: &Balance) -> Option<Amounts>
     Some(amounts)
 }
 
-// A balance is sound if it has none of the faults for which every call first gives 0.
+// A balance is sound if it has none of the faults for which every call first gives 0. It is handed by value: a rule of the project.
 pub fn sound(b: Balance) -> bool
     ensures { result ≡ sounds.sound (view_of b) }
 {

@@ -9,7 +9,7 @@ use Rattle.model.specs.declared.Balance.{Balance}
 use Rattle.model.specs.Entries.{with_entries, with_extraction}
 use Rattle.model.specs.View.{View}
 use Rattle.titles.specs.Adds.{adds}
-use Rattle.titles.specs.declared.Slot.TheVariants.{Extraction, Exports, Imports, Returns, WellExtraction}
+use Rattle.titles.specs.Slot.{Extraction, Exports, Imports, Returns, WellExtraction}
 
 -- A unit with its entries changed by these amounts, and an aquifer with its extraction changed.
 abbrev pub changed_by : (ℕ → ℕ → ℕ) → Unit → ℕ → ℕ → ℕ → ℕ → Unit

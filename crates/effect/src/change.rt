@@ -1,4 +1,5 @@
-// What a title changes in a balance, whichever way it goes.
+// What a title changes in a balance, whichever way it goes. Each step matches on the kind of the title, and takes the arrays of the balance
+// whole, in their sizes: both are rules of the project.
 ghost use Rattle.std.specs.Prelude.{◌≡◌, ◌<◌, set};
 ghost use Rattle.model.specs.Limits.{title_limit};
 ghost use Rattle.titles.specs.Adds.{return_of};

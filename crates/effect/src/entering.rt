@@ -1,4 +1,5 @@
-// What a title does to a balance: the entries that it raises, its place and its number.
+// What a title does to a balance: the entries that it raises, its place and its number. Arrays are handed over in the sizes that a balance
+// has, and by value: the project holds them so.
 ghost use Rattle.std.specs.Prelude.{◌≡◌};
 ghost use Rattle.effect.specs.Granted as grants;
 

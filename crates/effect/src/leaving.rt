@@ -1,4 +1,5 @@
-// A title taken back: what it added to each entry is lowered by the same, and its place stays out of force.
+// A title taken back: what it added to each entry is lowered by the same, and its place stays out of force. Arrays are handed over as in
+// `entering`.
 ghost use Rattle.std.specs.Prelude.{◌≡◌, ◌≤◌, ◌<◌};
 ghost use Rattle.model.specs.Limits.{title_limit};
 ghost use Rattle.model.specs.View.{view_of};
@@ -8,7 +9,8 @@ use crate::change::{change_units, changed_balance};
 use crate::direction::Leaving;
 use model::{Balance, Place, Title, Unit};
 
-// The units without what a title added.
+// The units without what a title added. Each of `raised_units` and this names its own direction: the two promise different lists, each under
+// its own condition.
 pub fn lowered_units(mut units: [Unit; Balance::UNITS], t: Title) -> [Unit; Balance::UNITS]
     requires { cancels.UnitsHeld t units }
     ensures { result ≡ cancels.lowered_units t units }
@@ -24,8 +26,8 @@ pub fn take_back(b: Balance, number: u16) -> Balance
 {
     let k = usize::from(number) - 1;
     let place = Place {
-        title: b.titles[k].title,
         in_force: false,
+        ..b.titles[k]
     };
     changed_balance::<Leaving>(b, place, k, b.given)
 }

@@ -1,7 +1,7 @@
 -- The steps of a grant. Assumes nothing.
 use Rattle.std.specs.Prelude.{ℕ, Bool, false, not, ◌&&◌, List, [], eqb, leb, length, get_or, Ok, Err}
 use Rattle.laws.specs.Sum.{every}
-use Rattle.model.specs.declared.Refusal.TheVariants.{NoSuchPlace, NoSuchUse, BadVolume, NumbersGiven, EntryFull, ReceiverBelow}
+use Rattle.model.specs.declared.Refusal.TheVariants.{BadVolume, NumbersGiven, EntryFull, ReceiverBelow}
 use Rattle.model.specs.declared.Unit.{Unit}
 use Rattle.model.specs.declared.Aquifer.{Aquifer}
 use Rattle.model.specs.declared.Title.{Title}
@@ -14,22 +14,15 @@ use Rattle.model.specs.View.{View}
 use Rattle.model.specs.Limits.{title_limit}
 use Rattle.figures.specs.declared.UnitFigures.{UnitFigures}
 use Rattle.figures.specs.Figures.{no_unit_figures}
-use Rattle.basin.specs.Sound.{exists, is_volume, parts_view}
+use Rattle.basin.specs.Sound.{is_volume, parts_view}
+-- A title that names a unit, an aquifer or a use that is not there, of so many units and aquifers.
+pub use Rattle.basin.specs.Sound.{missing_fault}
 use Rattle.refusal.specs.Grant.{in_deficit, overfull, downstream_transfer}
 
 -- A volume outside its range, 256 numbers given, or an entry that would pass 10,000,000.
 abbrev pub volume_fault : ℕ → ℕ → Bool → Answer
 volume_fault given volume over =
     refuse BadVolume (not (is_volume volume)) (refuse NumbersGiven (leb title_limit given) (refuse EntryFull over accepted))
-
--- A title that names a unit, an aquifer or a use that is not there, of so many units and aquifers.
-abbrev pub missing_fault : ℕ → ℕ → Title → Answer
-missing_fault units aquifers (UnitWithdrawal u r x) = refuse NoSuchPlace (not (exists units u)) (refuse NoSuchUse (not (exists 7 r)) accepted)
-missing_fault units aquifers (AquiferWithdrawal a x) = refuse NoSuchPlace (not (exists aquifers a)) accepted
-missing_fault units aquifers (UnitTransfer g r x) = refuse NoSuchPlace (not (exists units g && exists units r)) accepted
-missing_fault units aquifers (AquiferTransfer a u x) = refuse NoSuchPlace (not (exists aquifers a && exists units u)) accepted
-missing_fault units aquifers (ReturningWithdrawal a u r x) =
-    refuse NoSuchPlace (not (exists aquifers a && exists units u)) (refuse NoSuchUse (not (exists 7 r)) accepted)
 
 -- A transfer between units that goes to the same unit or downstream.
 abbrev pub goes_down : View → Title → Bool

@@ -1,43 +1,15 @@
-// What a grant refuses before its water is looked at.
+// What a grant refuses before its water is looked at. Each step matches on the kind of the title: a rule of the project.
 ghost use Rattle.std.specs.Prelude.{◌≡◌, ◌≤◌, ◌<◌, ◌+◌, length};
 ghost use Rattle.model.specs.Answers.{accepted};
 ghost use Rattle.model.specs.Limits.{aquifer_limit};
-ghost use Rattle.river.specs.Flow.{Ready};
 ghost use Rattle.river.specs.Units.{units_of};
 ghost use Rattle.refusal.specs.Grant as grants;
 ghost use Rattle.refusal.specs.Steps as steps;
 ghost use Rattle.refusal.specs.Steps.{entries_of};
 
-use basin::places::{exists, is_volume};
+use basin::places::{is_volume, missing};
 use model::{Answer, Aquifer, Balance, Refusal, Title, Unit};
 use river::Tree;
-
-// A title that names a unit, an aquifer or a use that is not there, of n units and m aquifers.
-fn missing(t: Title, n: usize, m: usize) -> Answer
-    ensures { result ≡ steps.missing_fault n m t }
-{
-    let (places, uses) = match t {
-        Title::UnitWithdrawal { unit, usage, .. } => (exists(n, unit), exists(7, usage)),
-        Title::AquiferWithdrawal { aquifer, .. } => (exists(m, aquifer), true),
-        Title::UnitTransfer { from, to, .. } => (exists(n, from) && exists(n, to), true),
-        Title::AquiferTransfer { aquifer, unit, .. } => {
-            (exists(m, aquifer) && exists(n, unit), true)
-        }
-        Title::ReturningWithdrawal {
-            aquifer,
-            unit,
-            usage,
-            ..
-        } => (exists(m, aquifer) && exists(n, unit), exists(7, usage)),
-    };
-    if !places {
-        return Err(Refusal::NoSuchPlace);
-    }
-    if !uses {
-        return Err(Refusal::NoSuchUse);
-    }
-    Ok(())
-}
 
 // An entry that would pass 10,000,000.
 fn past(entry: u32, more: u32) -> bool
@@ -46,7 +18,8 @@ fn past(entry: u32, more: u32) -> bool
     u64::from(entry) + u64::from(more) > u64::from(Balance::TERM)
 }
 
-// An entry that a title raises would pass 10,000,000. What the title names is there.
+// An entry that a title raises would pass 10,000,000. What the title names is there. One match over the five kinds: its length is that of
+// their fields.
 fn overfull(units: &[Unit], aquifers: &[Aquifer], t: Title) -> bool
     requires { steps.missing_fault (length units.now) (length aquifers.now) t ≡ accepted }
     ensures { result ≡ grants.overfull (entries_of units.now aquifers.now 0) t }
@@ -100,7 +73,7 @@ fn goes_down(tree: &Tree, m: usize, t: Title) -> bool
     }
 }
 
-// What a grant refuses before its water is looked at, first match wins.
+// What a grant refuses before its water is looked at, first match wins. The clause bounds a slice, whose length no type bounds.
 pub fn early(tree: &Tree, aquifers: &[Aquifer], given: usize, t: Title) -> Answer
     requires { length aquifers.now ≤ aquifer_limit }
     ensures { result ≡ steps.early_fault (entries_of tree.now aquifers.now given) t }

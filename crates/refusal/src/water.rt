@@ -1,9 +1,8 @@
-// 17 no water, in a balance with the title in.
+// 17 no water, in a balance with the title in. The giver is found by a match on the kind of the title: a rule of the project.
 ghost use Rattle.std.specs.Prelude.{◌≡◌, not, ◌≤◌, ◌<◌, length};
 ghost use Rattle.std.specs.Int.Signed.{non_neg};
 ghost use Rattle.laws.specs.Signed.{above, below};
 ghost use Rattle.model.specs.Limits.{term_limit};
-ghost use Rattle.river.specs.Flow.{Ready};
 ghost use Rattle.river.specs.Units.{units_of};
 ghost use Rattle.river.specs.Wells.{well_availability};
 ghost use Rattle.figures.specs.Figures.{WellsReady, aquifers_of};
@@ -29,7 +28,10 @@ fn dry_by(figures: &[UnitFigures], ends: &[usize], outlet: usize) -> bool
     requires { length figures.now ≡ length ends.now }
     ensures { result ≡ steps.dry_by figures.now ends.now (length figures.now) outlet }
 {
-    (0..figures.len()).any(|i| ends[i] == outlet && in_deficit(figures[i]))
+    figures
+        .iter()
+        .zip(ends)
+        .any(|(unit, end)| *end == outlet && in_deficit(*unit))
 }
 
 // The outlet of the unit at an index, or some unit that drains there, has a negative flow or a negative availability.

@@ -10,8 +10,7 @@ use Rattle.model.specs.Entries.{place_of}
 use Rattle.model.specs.View.{View, view_of}
 use Rattle.titles.specs.Posting.{postings}
 use Rattle.titles.specs.Adds.{return_of, adds, place_adds, titled}
-use Rattle.titles.specs.declared.Slot.{Slot}
-use Rattle.titles.specs.declared.Slot.TheVariants.{Extraction, Exports, Imports, Returns, WellExtraction}
+use Rattle.titles.specs.Slot.{Slot, Extraction, Exports, Imports, Returns, WellExtraction}
 use Rattle.titles.proofs.Adding.{in_force_lem}
 use Rattle.basin.specs.Sound.{exists}
 use Rattle.basin.proofs.Soundness.{Exists, Soundness, number_exists}

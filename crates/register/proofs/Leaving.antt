@@ -15,7 +15,7 @@ use Rattle.model.specs.declared.Balance.{Balance}
 use Rattle.model.specs.View.{View, view_of}
 use Rattle.model.specs.Answers.{Answer, refuse}
 use Rattle.titles.specs.Adds.{return_of}
-use Rattle.titles.specs.declared.Slot.TheVariants.{Extraction, Exports, Imports, Returns, WellExtraction}
+use Rattle.titles.specs.Slot.{Extraction, Exports, Imports, Returns, WellExtraction}
 use Rattle.river.specs.Flow.{Ready}
 use Rattle.basin.specs.Sound.{sound, flowing}
 use Rattle.basin.proofs.Soundness.{UnitSound, AquiferSound, PlaceSound, Soundness, soundness, sound_of, ready_of}

@@ -17,8 +17,7 @@ use Rattle.model.specs.declared.Balance.{Balance}
 use Rattle.model.specs.Entries.{place_of}
 use Rattle.model.specs.View.{View, view_of}
 use Rattle.titles.specs.Adds.{return_of, adds, place_adds, titled}
-use Rattle.titles.specs.declared.Slot.{Slot}
-use Rattle.titles.specs.declared.Slot.TheVariants.{Extraction, Exports, Imports, Returns, WellExtraction}
+use Rattle.titles.specs.Slot.{Slot, Extraction, Exports, Imports, Returns, WellExtraction}
 use Rattle.river.specs.Flow.{flow, net, downstream, Ready}
 use Rattle.river.proofs.Flows.{net_no_less}
 use Rattle.laws.proofs.Every.{every_each}

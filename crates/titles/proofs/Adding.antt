@@ -5,7 +5,7 @@ use mathlib.Core.Bool.{true, false}
 use native.Mathlib.Numerals.{add-one}
 use Rattle.laws.specs.Sum.{naturals, sum_of}
 use Rattle.model.specs.declared.Place.{Place}
-use Rattle.titles.specs.declared.Slot.{Slot}
+use Rattle.titles.specs.Slot.{Slot}
 use Rattle.titles.specs.Adds.{return_of, adds, place_adds}
 
 module _ (s : Slot) (j : ℕ) where

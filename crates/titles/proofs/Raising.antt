@@ -7,8 +7,7 @@ use lib.ListN.{get_or, replicate, get_or-replicate}
 use native.Mathlib.Omega.{arith}
 use Rattle.model.specs.declared.Place.{Place}
 use Rattle.model.specs.Fresh.{empty_place}
-use Rattle.titles.specs.declared.Slot.{Slot}
-use Rattle.titles.specs.declared.Slot.TheVariants.{Extraction, Exports, Imports, Returns, WellExtraction}
+use Rattle.titles.specs.Slot.{Slot, Extraction, Exports, Imports, Returns, WellExtraction}
 use Rattle.titles.specs.declared.Sums.{Sums}
 use Rattle.titles.specs.Posting.{Posting, nothing, posts}
 use Rattle.titles.specs.Adds.{place_adds}

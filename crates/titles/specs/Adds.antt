@@ -4,7 +4,7 @@ use Rattle.laws.specs.Sum.{naturals, sum_of, only}
 use Rattle.model.specs.declared.Title.{Title}
 use Rattle.model.specs.declared.Title.TheVariants.{UnitWithdrawal, AquiferWithdrawal, UnitTransfer, AquiferTransfer, ReturningWithdrawal}
 use Rattle.model.specs.declared.Place.{Place}
-use Rattle.titles.specs.declared.Slot.{Slot}
+use Rattle.titles.specs.Slot.{Slot}
 use Rattle.model.specs.View.{View}
 use Rattle.titles.specs.Posting.{posts, slot, postings}
 

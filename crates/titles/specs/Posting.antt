@@ -3,8 +3,7 @@ use Rattle.std.specs.Prelude.{ℕ, suc, eqb}
 use Rattle.laws.specs.Sum.{naturals, only}
 use Rattle.model.specs.declared.Title.{Title}
 use Rattle.model.specs.declared.Title.TheVariants.{UnitWithdrawal, AquiferWithdrawal, UnitTransfer, AquiferTransfer, ReturningWithdrawal}
-use Rattle.titles.specs.declared.Slot.{Slot}
-use Rattle.titles.specs.declared.Slot.TheVariants.{Extraction, Exports, Imports, Returns, WellExtraction}
+use Rattle.titles.specs.Slot.{Slot, Extraction, Exports, Imports, Returns, WellExtraction}
 
 -- What is posted to an entry: nothing, or an amount for the unit or aquifer of a number.
 pub data Posting : Type 0 where

@@ -3,8 +3,7 @@ use Rattle.std.specs.Prelude.{ℕ, ◌+◌, ◌<◌, ◌≤◌, ◌*◌, ◌≡�
 use Rattle.laws.specs.Sum.{naturals, sum_of}
 use Rattle.model.specs.declared.Place.{Place}
 use Rattle.model.specs.Fresh.{empty_place}
-use Rattle.titles.specs.declared.Slot.{Slot}
-use Rattle.titles.specs.declared.Slot.TheVariants.{Extraction, Exports, Imports, Returns, WellExtraction}
+use Rattle.titles.specs.Slot.{Slot, Extraction, Exports, Imports, Returns, WellExtraction}
 use Rattle.titles.specs.declared.Sums.{Sums}
 use Rattle.model.specs.declared.Title.{Title}
 use Rattle.model.specs.Limits.{unit_limit, title_limit}

@@ -1,4 +1,4 @@
-// What titles add to the entries of units and aquifers.
+// What titles add to the entries of units and aquifers. Each step matches on the kind of the title: a rule of the project.
 #![tactic(auto)]
 
 ghost use Rattle.std.specs.Prelude.{◌≡◌};
@@ -8,17 +8,8 @@ ghost use Rattle.titles.specs.Titled as whole;
 
 use model::{Balance, Title};
 
-// The entries that titles raise. Only the definitions work over them: an enum of the code, since a data type of specs/ would be no plainer.
-#[derive(Clone, Copy)]
-pub enum Slot {
-    Extraction,
-    Exports,
-    Imports,
-    Returns,
-    WellExtraction,
-}
-
-// What titles add together to each entry, for each unit or aquifer: number n stands at n - 1.
+// What titles add together to each entry, for each unit or aquifer: number n stands at n - 1. Five arrays, since `specs/` states each of the
+// five by itself and `add` raises one entry at a time; `wells` has as many places as the others, so that one `raise` serves all.
 #[derive(Clone, Copy)]
 pub struct Sums {
     pub extraction: [u64; Balance::UNITS],
@@ -54,7 +45,8 @@ pub fn returned(usage: u8, volume: u32) -> u32
 }
 
 // The amount of one posting is added at its number. A number that is 0 or above 64 is passed over.
-// The place is tested and indexed: after `get_mut` a proof would know nothing of what the array holds.
+// The place is tested and indexed: after `get_mut` a proof would know nothing of what the array holds. The parameter is the whole array, as in
+// `Sums`, so that its length is known.
 fn raise(sums: &mut [u64; Balance::UNITS], number: u8, amount: u32)
     requires { whole.HasRoom sums.old }
     ensures { whole.Raised sums.old (post number amount) sums.new }
@@ -84,7 +76,7 @@ impl Sums {
     // What a title adds. A withdrawal from a unit adds its volume to the extraction and its return to the returns; a withdrawal from an
     // aquifer to the aquifer's extraction; a transfer from a unit to the giver's exports and the receiver's imports; a transfer from an
     // aquifer to the aquifer's extraction and the unit's imports; a withdrawal from an aquifer that returns to a unit adds its volume to the
-    // aquifer's extraction and its return to the unit's returns.
+    // aquifer's extraction and its return to the unit's returns. One match over the five kinds: its length is that of their fields.
     #[tactic(auto, using(crate::proofs::Raising::rooms))]
     pub fn add(&mut self, title: Title)
         requires { whole.AllHaveRoom self.old }
