@@ -1,13 +1,12 @@
 -- One record of the calls more, by what stands there. Assumes nothing.
 use Rattle.std.specs.Prelude.{Ok}
-use Prim.Native.Nat.{ℕ, zero, suc, ◌+◌, ◌-◌, ◌≤◌, ◌<◌}
-use mathlib.Core.Path.{◌≡◌, refl, sym, ap, ◌∙◌}
+use Prim.Native.Nat.{ℕ, suc, ◌+◌}
+use mathlib.Core.Path.{◌≡◌, ap, ◌∙◌}
 use mathlib.Core.List.{List}
 use lib.ListN.{length}
-use native.Mathlib.Numerals.{add-one, sub-one}
+use native.Mathlib.Numerals.{add-one}
 use native.Mathlib.Omega.{arith}
 use Rattle.model.specs.declared.Refusal.{Refusal}
-use Rattle.model.specs.declared.Refusal.TheVariants.{Short}
 use Rattle.model.specs.declared.Call.{Call}
 use Rattle.model.specs.declared.Balance.{Balance}
 use Rattle.model.proofs.Answers.{by_answer}
@@ -39,31 +38,6 @@ module _ (left : ℕ) (s : List ℕ) (at : ℕ) (b : Balance) where
   rest_asks : (c : Call) (to : ℕ) → call_at s at ≡ Asks c to → rest (suc left) s at b ≡ rest left s to (call_reply b c).balance
   unfolding calls_from ending_from after
   rest_asks c to e = rw (e, calls_from, ending_from, after)
-
--- No record more is allowed.
-pub rest_none : (s : List ℕ) (at : ℕ) (b : Balance) → rest 0 s at b ≡ ended (failed Short at) b
-unfolding calls_from ending_from after
-rest_none s at b = refl
-
--- A loop that allows so many records: what the rest gives is what the calls of the book give.
-module _ (s : List ℕ) (all : Ran) where
-  pub turn_ends : (left at : ℕ) (b : Balance) → 0 < left → rest left s at b ≡ all → call_at s at ≡ End → ended (Ok tt) b ≡ all
-  turn_ends zero at b h e q = absurd (omega arith)
-  turn_ends (suc left) at b h e q = sym (rest_ends left s at b q) ∙ e
-
-  pub turn_fails : (left at : ℕ) (b : Balance) (n : Refusal) → 0 < left → rest left s at b ≡ all → call_at s at ≡ Fails n → ended (failed n at) b ≡ all
-  turn_fails zero at b n h e q = absurd (omega arith)
-  turn_fails (suc left) at b n h e q = sym (rest_fails left s at b n q) ∙ e
-
-  pub turn_asks : (left at : ℕ) (b : Balance) (c : Call) (to : ℕ) → 0 < left → rest left s at b ≡ all → call_at s at ≡ Asks c to
-      → rest (left - 1) s to (call_reply b c).balance ≡ all
-  turn_asks zero at b c to h e q = absurd (omega arith)
-  turn_asks (suc left) at b c to h e q =
-      ap (λ (n : ℕ). rest n s to (call_reply b c).balance) (sub-one (suc left)) ∙ sym (rest_asks left s at b c to q) ∙ e
-
-  pub turn_none : (left at : ℕ) (b : Balance) → left ≤ 0 → rest left s at b ≡ all → ended (failed Short at) b ≡ all
-  turn_none zero at b h e = sym (rest_none s at b) ∙ e
-  turn_none (suc left) at b h e = absurd (omega arith)
 
 -- What the calls of a book from an offset on give: each record takes bytes, so that the allowance of records serves the rest too.
 module _ (s : List ℕ) (at : ℕ) (b : Balance) where

@@ -26,7 +26,7 @@ use report::{AquiferLine, CallLine, Outcome, ROOM, RefusedLine, UnitLine};
 use text::Page;
 
 // The longest book.
-const LONGEST: usize = 65536;
+pub const LONGEST: usize = 65_536;
 
 // A row of the table: the figures of a unit or of an aquifer. Its line is numbered from 1, its index in the table counts from 0. Indices
 // and places are cast by `as u64` here and below, since std has no `From` of a `usize` for `u64`.
@@ -84,7 +84,7 @@ fn lines<T: Row>(page: &mut Page, rows: &[T])
     }
 }
 
-// The table of a balance: its units and then its aquifers. A balance that falls under 0 has none.
+// The table of a balance, which is handed by value as everywhere: its units and then its aquifers. A balance that falls under 0 has none.
 pub fn table(page: &mut Page, b: Balance)
     requires { Fits 12288 page.old }
     ensures { Puts 12288 page.old (text.table_text (view_of b)) page.new }
@@ -135,50 +135,33 @@ pub fn called(call: Call, answer: Answer, given: usize) -> Outcome
     }
 }
 
-// Runs the calls of a book over a sound balance and puts a line for each. `calls::run_tested` runs them without lines: one loop for both would
-// be no plainer, since its contract would have to say what a function that it is handed does to the page.
+// Runs the calls of a book over a sound balance and puts a line for each. `calls::tested::run_tested` runs them without lines: one loop for both
+// would be no plainer, since its contract would have to say what a function that it is handed does to the page. The calls are counted by hand:
+// a `for` that counts them would need a tail that never runs.
 fn call_lines(s: &[u8], from: usize, balance: Balance, page: &mut Page) -> Ran
     requires { (length s.now ≤ 65536) × ((sound (view_of balance) ≡ true) × Fits 1048576 page.old) }
     ensures { printing.Printed s.now from balance page.old page.new result }
 {
     let mut b = balance;
     let mut at = from;
-    for k in 0..s.len() + 1 {
+    let mut k = 0;
+    let ending = loop {
         match record::call_at(s, at) {
-            CallAt::End => {
-                return Ran {
-                    ending: Ok(()),
-                    balance: b,
-                };
-            }
-            CallAt::Fails { refusal } => {
-                return Ran {
-                    ending: Err(Failure { refusal, place: at }),
-                    balance: b,
-                };
-            }
+            CallAt::End => break Ok(()),
+            CallAt::Fails { refusal } => break Err(Failure { refusal, place: at }),
             CallAt::Asks { call, to } => {
                 let answer = decide(&b, true, call);
                 let outcome = called(call, answer, b.given);
                 at = to;
-                if let Ok(()) = answer {
+                k += 1;
+                if answer.is_ok() {
                     b = perform(b, call);
                 }
-                CallLine {
-                    call: k as u64 + 1,
-                    outcome,
-                }
-                .put(page);
+                CallLine { call: k, outcome }.put(page);
             }
         }
-    }
-    Ran {
-        ending: Err(Failure {
-            refusal: Refusal::Short,
-            place: at,
-        }),
-        balance: b,
-    }
+    };
+    Ran { ending, balance: b }
 }
 
 // The line of a refused description or of a record that failed.
@@ -236,7 +219,7 @@ fn book_lines(s: &[u8], page: &mut Page)
     }
 }
 
-// What is printed for a book: its bytes from the start of the buffer on, and their number.
+// What is printed for a book: its bytes from the start of the buffer on, and their number, by which a caller in C knows them.
 pub fn print_book(s: &[u8], out: &mut [u8; ROOM]) -> usize
     ensures { Written 1064960 out.old 0 (text.printed s.now) out.new result }
 {

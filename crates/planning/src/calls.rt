@@ -1,5 +1,6 @@
-// Keeping the current balance under a name, and going back to what is kept under one. The test's answer stays a flag beside the state, for the
-// reason that `decision` gives.
+// Keeping the current balance under a name, and going back to what is kept under one: two rules of the paper, so each has its own functions.
+// The test's answer stays a flag beside the state: `keep_apart` speaks of the state with another current balance, of which no invariant of
+// the state that it is lent says whether it is sound.
 ghost use Rattle.std.specs.Prelude.{◌≡◌};
 ghost use Rattle.planning.specs.State.{sound_state};
 ghost use Rattle.planning.specs.Calls as replies;

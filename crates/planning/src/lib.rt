@@ -37,7 +37,8 @@ pub struct State {
     pub count: usize,
 }
 
-// The reply of keeping and of going back: the answer, 0 as the number, since no title is concerned, and the state to go on with.
+// The reply of keeping and of going back: the answer, 0 as the number, since no title is concerned, and the state to go on with. The answer
+// stands beside the state and holds none, since a refused call hands back the old state.
 #[derive(Clone, Copy)]
 pub struct Reply {
     pub answer: model::Answer,
@@ -46,7 +47,7 @@ pub struct Reply {
 }
 
 // The reply of opening a book as a state: accepted, with the offset where the description ends and the state in which nothing is kept, or
-// refused under a number, with its place and the fresh state.
+// refused under a number, with its place and the fresh state. So place and state stand beside the answer here too.
 #[derive(Clone, Copy)]
 pub struct Opened {
     pub answer: model::Answer,

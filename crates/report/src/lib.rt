@@ -1,5 +1,6 @@
 // The lines that the program prints. Each is a value that is put on a page. A line is at most 128 bytes long, a call's line at most 64. That the
-// page has room is asked at each line and not by a type, which would hold it for one length only.
+// page has room is asked at each line and not by a type, which would hold it for one length only. A line is words and numbers: it knows no
+// figures and no refusals, so that it holds their numbers alone. The four `put` are of no trait, since nothing is generic over them.
 #![tactic(auto)]
 
 ghost use Rattle.text.specs.Page.{Fits, Puts};
@@ -9,7 +10,7 @@ ghost use Rattle.report.specs.Calls.{outcome_line, outcome_text};
 use text::Page;
 
 // The size of the buffer: room for 16,384 call lines, as many as a book of 65,536 bytes can have calls, and for the table.
-pub const ROOM: usize = 1064960;
+pub const ROOM: usize = 1_064_960;
 
 // `unit N F C R A`: the unit's number, flow, committed volume, own reserve and availability.
 #[derive(Clone, Copy)]
