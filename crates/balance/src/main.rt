@@ -5,7 +5,7 @@ use std::io;
 use std::io::Write;
 
 // The bytes of the longest book, and one more, by which a longer one is told.
-const ROOM: usize = 65536 + 1;
+const ROOM: usize = listing::LONGEST + 1;
 
 // `main` of `journal` differs in the size and in what is called: a function over both would leave as many lines to each of them.
 fn main(rt: HostRuntime) -> io::Result<()> {

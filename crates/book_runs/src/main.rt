@@ -5,7 +5,7 @@ use std::io;
 use std::io::Write;
 
 // The bytes of the longest book, and one more, by which a longer one is told.
-const ROOM: usize = 65536 + 1;
+const ROOM: usize = listing::LONGEST + 1;
 
 // What is printed for a book.
 fn print(rt: &impl Print, book: &[u8]) -> io::Result<()> {
@@ -14,6 +14,7 @@ fn print(rt: &impl Print, book: &[u8]) -> io::Result<()> {
     io::writer(rt).write_all(&out[..n])
 }
 
+// `main` of `journal_runs` differs in the size and in what is called, as that of `balance` does of its twin's.
 fn main(rt: HostRuntime) -> io::Result<()> {
     let mut room = [0u8; ROOM];
     named::each(&rt, &mut room, &mut |book: &[u8]| print(&rt, book))

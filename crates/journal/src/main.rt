@@ -4,7 +4,7 @@
 use std::io;
 
 // The bytes of the longest journal, and one more, by which a longer one is told.
-const ROOM: usize = 1048576 + 1;
+const ROOM: usize = output::LONGEST + 1;
 
 // `main` of `balance` differs in the size and in what is called: a function over both would leave as many lines to each of them.
 fn main(rt: HostRuntime) -> io::Result<()> {

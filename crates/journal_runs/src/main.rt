@@ -4,7 +4,7 @@
 use std::io;
 
 // The bytes of the longest journal, and one more, by which a longer one is told.
-const ROOM: usize = 1048576 + 1;
+const ROOM: usize = output::LONGEST + 1;
 
 // What is printed for a journal.
 fn print(rt: &impl Print, journal: &[u8]) -> io::Result<()> {
@@ -12,6 +12,7 @@ fn print(rt: &impl Print, journal: &[u8]) -> io::Result<()> {
     output::put_journal(&mut io::writer(rt), journal, &mut out)
 }
 
+// `main` of `book_runs` differs in the size and in what is called, as that of `journal` does of its twin's.
 fn main(rt: HostRuntime) -> io::Result<()> {
     let mut room = [0u8; ROOM];
     named::each(&rt, &mut room, &mut |journal: &[u8]| print(&rt, journal))

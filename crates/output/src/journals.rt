@@ -11,7 +11,7 @@ use std::io::Write;
 
 // Writes the replies to the records that are left after the beginning of a journal, a page at a time, then the table. It is a `while`, since
 // only a page tells whether another follows, and k, the place of the next record, goes on by how many a page has: at most 16,384, so that
-// the cast is exact and a `try_from` would be no plainer.
+// the cast of `Replayed`'s count is exact, and a `try_from` would add a branch that never runs.
 fn put_pages<W: Write>(
     to: &mut W,
     s: &[u8],

@@ -4,3 +4,4 @@
 mod journals;
 
 pub use journals::put_journal;
+pub use replay::LONGEST;

@@ -1,5 +1,5 @@
 // For timing: keeping, going back and an ordinary call, many times over, on the state of a book in which four balances are kept. The crate
-// `planning_times_c` exports these functions to C.
+// `planning_times_c` exports these functions to C. They are three steps of one loop, each of which calls another function.
 #![tactic(auto)]
 
 ghost use Rattle.std.specs.Prelude.{◌≡◌, ℕ};

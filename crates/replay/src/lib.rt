@@ -11,7 +11,7 @@ ghost use Rattle.listing.specs.Listing.{table_text};
 ghost use Rattle.replay.specs.Page.{replayed_so};
 
 use model::Balance;
-pub use opening::{begin_journal, open_journal};
+pub use opening::{LONGEST, begin_journal, open_journal};
 pub use page::{next_page, next_record};
 use planning::State;
 use report::ROOM;
@@ -19,7 +19,8 @@ use text::Page;
 
 // What replaying some records of a journal gives: the state after them, the offset of the next one, how many were replayed, how many
 // bytes of the buffer their replies take, and whether there may be more. The reply to a record that fails with 1 or 2 is its line, and
-// nothing follows it. `next` is promised where nothing follows too, as the place of the end or of the refusal, so it is no `Option`.
+// nothing follows it. `next` is promised where nothing follows too, as the place of the end or of the refusal, so it is no `Option`. The
+// length stands beside the lent buffer, which the caller has.
 #[derive(Clone, Copy)]
 pub struct Replayed {
     pub state: State,
@@ -30,7 +31,7 @@ pub struct Replayed {
 }
 
 impl Replayed {
-    // Where a journal stands before its first record, or before the first of a page.
+    // Where a journal stands before its first record.
     fn begun(state: State, next: usize, length: usize, more: bool) -> Self
         ensures { result ≡ replayed_so state next 0 length more }
     {
@@ -44,7 +45,7 @@ impl Replayed {
     }
 }
 
-// The table of a balance, from the start of the buffer on, and how many bytes it takes.
+// The table of a balance, which is handed by value as everywhere, from the start of the buffer on, and how many bytes it takes.
 pub fn table(balance: Balance, out: &mut [u8; ROOM]) -> usize
     ensures { Written 1064960 out.old 0 (table_text (view_of balance)) out.new result }
 {

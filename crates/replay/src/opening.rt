@@ -24,7 +24,7 @@ fn ends_there(s: &[u8], answer: Answer, place: usize) -> bool
 }
 
 // The longest journal.
-const LIMIT: usize = 1048576;
+pub const LONGEST: usize = 1_048_576;
 
 // Opens a journal as a state with nothing kept.
 pub fn open_journal(s: &[u8]) -> Opened
@@ -42,10 +42,10 @@ pub fn begin_journal(s: &[u8], out: &mut [u8; ROOM]) -> Replayed
     ensures { Replied (journals.begun s.now) out.old out.new result }
 {
     let mut page = Page::new(out);
-    if LIMIT < s.len() {
+    if LONGEST < s.len() {
         let state = State::nothing_kept(Balance::fresh());
-        listing::refused_line(&mut page, Refusal::TooLong, LIMIT);
-        return Replayed::begun(state, LIMIT, page.len(), false);
+        listing::refused_line(&mut page, Refusal::TooLong, LONGEST);
+        return Replayed::begun(state, LONGEST, page.len(), false);
     }
     let o = open_journal(s);
     match o.answer {

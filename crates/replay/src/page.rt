@@ -14,9 +14,10 @@ use requests::RecordAt;
 use text::Page;
 
 // The most records of a page: 1,048,576 bytes of the buffer hold their replies, of at most 64 bytes each.
-const PAGE: usize = 16384;
+const PAGE: usize = 16_384;
 
-// What was replayed, the current balance standing apart from what is kept.
+// What was replayed, the current balance standing apart from what is kept: one literal for the three places where a page ends, which differ in
+// four of its values.
 fn replayed(
     kept: State,
     balance: Balance,
@@ -37,8 +38,9 @@ fn replayed(
 }
 
 // The replies to at most so many records from an offset on, the first of them at place `first` among the records of its journal. The
-// current balance stands apart from what is kept, and is not lent: otherwise each accepted call copies it once more. The count is cast by
-// `as u64`, since std has no `From` of a `usize` for `u64`.
+// current balance stands apart from what is kept, so that a call changes it alone: an accepted one takes as many instructions as in `balance`.
+// It is a loop beside `listing::call_lines`, since the records are others and so is the state. A name's bytes are read once, where they are
+// needed: `RecordAt` has none. The count is a `usize` as `Replayed` has it, cast by `as u64`, since std has no `From` of it for `u64`.
 fn replies(
     state: State,
     s: &[u8],
