@@ -18,8 +18,8 @@ fn past(entry: u32, more: u32) -> bool
     u64::from(entry) + u64::from(more) > u64::from(Balance::TERM)
 }
 
-// An entry that a title raises would pass 10,000,000. What the title names is there. One match over the five kinds: its length is that of
-// their fields.
+// An entry that a title raises would pass 10,000,000. What the title names is there. One match over the five kinds: their fields make its
+// length.
 fn overfull(units: &[Unit], aquifers: &[Aquifer], t: Title) -> bool
     requires { steps.missing_fault (length units.now) (length aquifers.now) t ≡ accepted }
     ensures { result ≡ grants.overfull (entries_of units.now aquifers.now 0) t }

@@ -1,15 +1,14 @@
 -- The arrays that a decision tries: with a title in, and without one. Assumes nothing.
 use Rattle.std.specs.Prelude.{Ok}
-use Prim.Native.Nat.{ℕ, pred, ◌+◌, ◌≤◌, ◌<◌}
+use Prim.Native.Nat.{ℕ, ◌+◌, ◌≤◌}
 use mathlib.Core.Path.{◌≡◌, refl, sym, ap, subst⁻¹, ◌∙◌}
-use mathlib.Core.Bool.{true, false}
+use mathlib.Core.Bool.{true}
 use mathlib.Core.List.{List}
 use lib.ListN.{length, take}
 use lib.Signed.{non_neg}
 use native.Mathlib.Omega.{arith}
 use Rattle.laws.specs.Sum.{every}
 use Rattle.laws.proofs.Arrays.{length_indexed}
-use Rattle.laws.proofs.Chain.{t_and, f_and, f_and_on, t_lt, f_lt, t_le, f_le}
 use Rattle.model.specs.declared.Unit.{Unit}
 use Rattle.model.specs.declared.Aquifer.{Aquifer}
 use Rattle.model.specs.declared.Title.{Title}
@@ -112,20 +111,6 @@ module _ (b : Balance) (t : Title) (us : List Unit) (ws : List Aquifer) (z : Siz
     (q : early_fault (view_of b) t ≡ Ok tt) (u : us ≡ raised_units t b.units) (w : ws ≡ raised_wells t b.aquifers) where
   pub trial_water : no_water (entries_view us b.unit_count ws b.aquifer_count 0) t ≡ no_water (granted (view_of b) t) t
   trial_water = rw (u, w) (whole_water b t z.units z.aquifers e q)
-
--- A number is in force, or it is not.
-module _ (v : View) (n : ℕ) where
-  pub no_number : n ≤ 0 → number_in_force v n ≡ false
-  no_number h = f_and _ _ (f_and _ _ (f_lt 0 n h))
-
-  pub not_given : v.given < n → number_in_force v n ≡ false
-  not_given h = f_and _ _ (f_and_on _ _ (t_lt 0 n (omega arith)) (f_le n v.given h))
-
-  pub out_of_force : 0 < n → n ≤ v.given → (v.place (pred n)).in_force ≡ false → number_in_force v n ≡ false
-  out_of_force h g e = f_and_on _ _ (t_and _ _ (t_lt 0 n h) (t_le n v.given g)) e
-
-  pub is_in_force : 0 < n → n ≤ v.given → (v.place (pred n)).in_force ≡ true → number_in_force v n ≡ true
-  is_in_force h g e = t_and _ _ (t_and _ _ (t_lt 0 n h) (t_le n v.given g)) e
 
 -- No flow is negative, over the units of a view alone.
 flowing_alone : (v : View) → flowing (alone v) ≡ flowing v

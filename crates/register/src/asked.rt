@@ -1,4 +1,5 @@
-// The calls of the register, on every balance.
+// The calls of the register, on every balance. Each of the five grants is an entry point of its own, with the fields of its kind, and the
+// balance is handed by value: rules of the project.
 ghost use Rattle.std.specs.Prelude.{◌≡◌};
 ghost use Rattle.model.specs.declared.Title.TheVariants.{UnitWithdrawal, AquiferWithdrawal, UnitTransfer, AquiferTransfer, ReturningWithdrawal};
 ghost use Rattle.register.specs.Reply as replies;

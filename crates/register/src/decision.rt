@@ -1,6 +1,8 @@
-// The answer to a call, from the arrays of the balance that it needs.
-ghost use Rattle.std.specs.Prelude.{◌≡◌, true, not};
+// The answer to a call, from the arrays of the balance that it needs. That the balance is sound stands in two contracts here, and beside the
+// flag that `decide` takes: a type of sound balances would be taken apart again at each accepted call.
+ghost use Rattle.std.specs.Prelude.{◌≡◌, ◌≤◌, true, not};
 ghost use Rattle.model.specs.View.{view_of};
+ghost use Rattle.model.specs.Limits.{title_limit};
 ghost use Rattle.basin.specs.Sound as sounds;
 ghost use Rattle.river.specs.Flow.{Ready};
 ghost use Rattle.river.specs.Units.{units_view};
@@ -40,24 +42,24 @@ fn needed(b: &Balance, t: Title) -> bool
     Tree::new(&less[..n]).first_negative().is_some()
 }
 
+// A number was given, and its title is in force.
+fn in_force(b: &Balance, number: u16) -> bool
+    requires { b.now.given ≤ title_limit }
+    ensures { result ≡ cancels.number_in_force (view_of b.now) number }
+{
+    let k = usize::from(number);
+    0 < k && k <= b.given && b.titles[k - 1].in_force
+}
+
 // The answer to a cancellation on a sound balance: 19 where the number was not given or its place is not in force, then 20.
 fn cancel_answer(b: &Balance, number: u16) -> Answer
     requires { sounds.sound (view_of b.now) ≡ true }
     ensures { result ≡ (cancels.cancel_reply b.now number).answer }
 {
-    let k = usize::from(number);
-    if k == 0 {
+    if !in_force(b, number) {
         return Err(Refusal::NotInForce);
     }
-    if b.given < k {
-        return Err(Refusal::NotInForce);
-    }
-    let place = b.titles[k - 1];
-    let in_force = place.in_force;
-    if !in_force {
-        return Err(Refusal::NotInForce);
-    }
-    if needed(b, place.title) {
+    if needed(b, b.titles[usize::from(number) - 1].title) {
         return Err(Refusal::FlowNeeded);
     }
     Ok(())

@@ -8,7 +8,8 @@ pub mod outcome;
 
 pub use asked::{ask, bring, cancel, pump, pump_returning, transfer, withdraw};
 
-// The reply of a call: the answer, the title's number (0 if refused) and the balance.
+// The reply of a call: the answer, the title's number (0 if refused) and the balance. Number and balance stand beside the answer, since a
+// refused call is promised the number 0 and the old balance.
 #[derive(Clone, Copy)]
 pub struct Reply {
     pub answer: model::Answer,

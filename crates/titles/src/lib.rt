@@ -76,7 +76,7 @@ impl Sums {
     // What a title adds. A withdrawal from a unit adds its volume to the extraction and its return to the returns; a withdrawal from an
     // aquifer to the aquifer's extraction; a transfer from a unit to the giver's exports and the receiver's imports; a transfer from an
     // aquifer to the aquifer's extraction and the unit's imports; a withdrawal from an aquifer that returns to a unit adds its volume to the
-    // aquifer's extraction and its return to the unit's returns. One match over the five kinds: its length is that of their fields.
+    // aquifer's extraction and its return to the unit's returns. One match over the five kinds: their fields make its length.
     #[tactic(auto, using(crate::proofs::Raising::rooms))]
     pub fn add(&mut self, title: Title)
         requires { whole.AllHaveRoom self.old }
