@@ -30,8 +30,8 @@ fn first_missing(b: &Balance) -> Option<usize>
     ensures { result ≡ opening.missing (view_of b.now) }
 {
     'search: {
-        for i in 0..b.unit_count {
-            if b.unit_count < usize::from(b.units[i].downstream) {
+        for (i, u) in b.units[..b.unit_count].iter().enumerate() {
+            if b.unit_count < usize::from(u.downstream) {
                 break 'search Some(i);
             }
         }
@@ -75,14 +75,14 @@ fn ended(mut b: Balance, p: &Progress, at: usize) -> Result<Opened, Failure>
     tested(b, at)
 }
 
-// Reads the description of a book record by record into a balance, to its end or to the first refusal.
+// Reads the description of a book record by record into a balance, to its end or to the first refusal. Each record takes bytes, so fewer are left.
 fn read(s: &[u8]) -> Result<Opened, Failure>
     ensures { opening.handed_back result ≡ reading.opened s.now }
 {
     let mut b = Balance::fresh();
     let mut p = Progress::default();
     let mut at = 0;
-    for _ in 0..s.len() + 1 {
+    loop {
         let reader = Reader {
             book: s,
             at,
@@ -107,10 +107,6 @@ fn read(s: &[u8]) -> Result<Opened, Failure>
             }
         }
     }
-    Err(Failure {
-        refusal: Refusal::Short,
-        place: at,
-    })
 }
 
 // Opening a book: a refused one hands back the fresh balance.
