@@ -38,7 +38,7 @@ use Rattle.book.proofs.Growing.{Good, good_start, good_entry, all_closed}
 use Rattle.book.proofs.Finishing.{unit_at_lem, well_at}
 
 -- Two allowances above the number of bytes that are left give the same.
-same_reading : (f g : ℕ) (s : List ℕ) (at : ℕ) (d : Description) → length s - at < f → length s - at < g
+pub same_reading : (f g : ℕ) (s : List ℕ) (at : ℕ) (d : Description) → length s - at < f → length s - at < g
     → reading_from f s at d ≡ reading_from g s at d
 same_reading zero g s at d h k = absurd (omega arith)
 same_reading (suc f) zero s at d h k = absurd (omega arith)

@@ -98,9 +98,9 @@ abbrev pub closed_with : Answer → ℕ → Opened → Opened
 closed_with (Ok u) place rest = rest
 closed_with (Err r) place rest = refused_with r place
 
--- What is handed back: an opened book, or the fresh balance with the refusal and its place.
-abbrev pub handed_back : Result Opened Failure → Opened
-handed_back (Ok o) = o
+-- What is handed back: the offset where the description ends and the balance, or the fresh balance with the refusal and its place.
+abbrev pub handed_back : Result (ℕ × Balance) Failure → Opened
+handed_back (Ok (at, b)) = record { answer = Ok tt; place = at; balance = b }
 handed_back (Err f) = refused_with f.refusal f.place
 
 abbrev pub ended_with : Balance → UnitRecord → ℕ → ℕ → ℕ → Opened

@@ -30,8 +30,8 @@ fn first_missing(b: &Balance) -> Option<usize>
     ensures { result ≡ opening.missing (view_of b.now) }
 {
     'search: {
-        for i in 0..b.unit_count {
-            if b.unit_count < usize::from(b.units[i].downstream) {
+        for (i, u) in b.units[..b.unit_count].iter().enumerate() {
+            if b.unit_count < usize::from(u.downstream) {
                 break 'search Some(i);
             }
         }
@@ -40,7 +40,7 @@ fn first_missing(b: &Balance) -> Option<usize>
 }
 
 // The tests of a whole balance at the end: the lowest-numbered unit with no downstream unit, then the one with a negative flow.
-fn tested(b: Balance, at: usize) -> Result<Opened, Failure>
+fn tested(b: Balance, at: usize) -> Result<(usize, Balance), Failure>
     requires { opening.Bounded (view_of b) }
     ensures { opening.handed_back result ≡ opening.tested_with b at }
 {
@@ -56,15 +56,11 @@ fn tested(b: Balance, at: usize) -> Result<Opened, Failure>
             place: j + 1,
         });
     }
-    Ok(Opened {
-        answer: Ok(()),
-        place: at,
-        balance: b,
-    })
+    Ok((at, b))
 }
 
 // The end of a description: it closes the open unit, then the whole balance is tested.
-fn ended(mut b: Balance, p: &Progress, at: usize) -> Result<Opened, Failure>
+fn ended(mut b: Balance, p: &Progress, at: usize) -> Result<(usize, Balance), Failure>
     requires { opening.EndReady b p.now.open p.now.units p.now.aquifers }
     ensures { opening.handed_back result ≡ opening.ended_with b p.now.open p.now.units p.now.aquifers at }
 {
@@ -75,14 +71,14 @@ fn ended(mut b: Balance, p: &Progress, at: usize) -> Result<Opened, Failure>
     tested(b, at)
 }
 
-// Reads the description of a book record by record into a balance, to its end or to the first refusal.
-fn read(s: &[u8]) -> Result<Opened, Failure>
+// Reads the description of a book record by record into a balance, to its end, whose offset it gives, or to the first refusal. Each record takes bytes, so fewer are left.
+fn read(s: &[u8]) -> Result<(usize, Balance), Failure>
     ensures { opening.handed_back result ≡ reading.opened s.now }
 {
     let mut b = Balance::fresh();
     let mut p = Progress::default();
     let mut at = 0;
-    for _ in 0..s.len() + 1 {
+    loop {
         let reader = Reader {
             book: s,
             at,
@@ -107,10 +103,6 @@ fn read(s: &[u8]) -> Result<Opened, Failure>
             }
         }
     }
-    Err(Failure {
-        refusal: Refusal::Short,
-        place: at,
-    })
 }
 
 // Opening a book: a refused one hands back the fresh balance.
@@ -118,7 +110,11 @@ pub fn read_book(s: &[u8]) -> Opened
     ensures { result ≡ reading.opened s.now }
 {
     match read(s) {
-        Ok(opened) => opened,
+        Ok((place, balance)) => Opened {
+            answer: Ok(()),
+            place,
+            balance,
+        },
         Err(failure) => Opened {
             answer: Err(failure.refusal),
             place: failure.place,

@@ -15,6 +15,17 @@ use record::{
 };
 use runoff::{Measure, Rain, Soils};
 
+// How many bytes a record has, its mark among them.
+const UNIT: usize = 31;
+
+const SOIL: usize = 8;
+
+const RAIN: usize = 4;
+
+const GAUGE: usize = 34;
+
+const AQUIFER: usize = 22;
+
 // A book that is being read: the offset of the next record, which lies in the book or at its end, and how far its description is read. The
 // counts and sums of its open unit are small enough to be added to.
 #[derive(Clone, Copy)]
@@ -41,13 +52,13 @@ impl Reader<'_> {
     fn unit_step(&self) -> Result<Next, Failure>
         ensures { let p = self.now.progress.now in result ≡ steps.unit_step self.now.book.now self.now.at p.open p.units p.aquifers }
     {
-        self.whole(31)?;
+        self.whole(UNIT)?;
         located(closing_fault(self.progress), self.progress.open.at)?;
         let unit = unit_record(self.book, self.at);
         located(unit_fault(self.progress, unit), self.at)?;
         Ok(Next::Opens {
             unit,
-            to: self.at + 31,
+            to: self.at + UNIT,
         })
     }
 
@@ -55,12 +66,12 @@ impl Reader<'_> {
     fn soil_step(&self) -> Result<Next, Failure>
         ensures { let p = self.now.progress.now in result ≡ steps.soil_step self.now.book.now self.now.at p.open p.units p.aquifers }
     {
-        self.whole(8)?;
+        self.whole(SOIL)?;
         let plot = soil_record(self.book, self.at);
         located(soil_fault(self.progress, &plot), self.at)?;
         Ok(Next::Grows {
             unit: with_soil(self.progress.open, &plot),
-            to: self.at + 8,
+            to: self.at + SOIL,
         })
     }
 
@@ -68,7 +79,7 @@ impl Reader<'_> {
     fn rain_step(&self, measure: Measure) -> Result<Next, Failure>
         ensures { let p = self.now.progress.now in result ≡ steps.rain_step measure self.now.book.now self.now.at p.open p.units p.aquifers }
     {
-        self.whole(4)?;
+        self.whole(RAIN)?;
         let rain = Rain {
             measure,
             depth: u32::from(bits16(self.book, self.at + 2)),
@@ -81,8 +92,8 @@ impl Reader<'_> {
         };
         let year = soils.rain_year(tenths);
         Ok(Next::Grows {
-            unit: with_year(self.progress.open, laws::difference(year, 0)),
-            to: self.at + 4,
+            unit: with_year(self.progress.open, year.cast_signed()),
+            to: self.at + RAIN,
         })
     }
 
@@ -90,12 +101,12 @@ impl Reader<'_> {
     fn gauge_step(&self) -> Result<Next, Failure>
         ensures { let p = self.now.progress.now in result ≡ steps.gauge_step self.now.book.now self.now.at p.open p.units p.aquifers }
     {
-        self.whole(34)?;
+        self.whole(GAUGE)?;
         let gauged = gauged_record(self.book, self.at);
         located(gauge_fault(self.progress, &gauged), self.at)?;
         Ok(Next::Grows {
             unit: with_year(self.progress.open, gauged.year()),
-            to: self.at + 34,
+            to: self.at + GAUGE,
         })
     }
 
@@ -103,13 +114,13 @@ impl Reader<'_> {
     fn aquifer_step(&self) -> Result<Next, Failure>
         ensures { let p = self.now.progress.now in result ≡ steps.aquifer_step self.now.book.now self.now.at p.open p.units p.aquifers }
     {
-        self.whole(22)?;
+        self.whole(AQUIFER)?;
         located(closing_fault(self.progress), self.progress.open.at)?;
         let aquifer = aquifer_record(self.book, self.at);
         located(aquifer_fault(self.progress, aquifer), self.at)?;
         Ok(Next::Adds {
             aquifer,
-            to: self.at + 22,
+            to: self.at + AQUIFER,
         })
     }
 
@@ -118,16 +129,10 @@ impl Reader<'_> {
     pub fn next(&self) -> Result<Next, Failure>
         ensures { let p = self.now.progress.now in result ≡ steps.next self.now.book.now self.now.at p.open p.units p.aquifers }
     {
-        let left = self.book.len() - self.at;
-        if left == 0 {
+        if self.at == self.book.len() {
             return Ok(Next::Ends);
         }
-        if left == 1 {
-            return Err(Failure {
-                refusal: Refusal::Short,
-                place: self.at,
-            });
-        }
+        self.whole(2)?;
         match mark_of(self.book[self.at], self.book[self.at + 1]) {
             Some(Mark::Un) => self.unit_step(),
             Some(Mark::Su) => self.soil_step(),

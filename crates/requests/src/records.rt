@@ -38,6 +38,9 @@ pub fn name_at(s: &[u8], at: usize) -> Name
     }
 }
 
+// How many bytes a keeping and a return have: a mark and a name.
+const SIZE: usize = 2 + Name::BYTES;
+
 // A record that is no call of the register, for which alone it is refused: a keeping, a return, or that refusal.
 fn own_record(s: &[u8], at: usize, refusal: Refusal) -> RecordAt
     ensures { result ≡ records.own_record s.now at refusal }
@@ -45,14 +48,14 @@ fn own_record(s: &[u8], at: usize, refusal: Refusal) -> RecordAt
     let Some(mark) = own_at(s, at) else {
         return RecordAt::Fails { refusal };
     };
-    if s.len().saturating_sub(at) < 10 {
+    if s.len().saturating_sub(at) < SIZE {
         return RecordAt::Fails {
             refusal: Refusal::Short,
         };
     }
     match mark {
-        OwnMark::Kp => RecordAt::Keeps { to: at + 10 },
-        OwnMark::Gb => RecordAt::Returns { to: at + 10 },
+        OwnMark::Kp => RecordAt::Keeps { to: at + SIZE },
+        OwnMark::Gb => RecordAt::Returns { to: at + SIZE },
     }
 }
 
