@@ -19,8 +19,8 @@ use Rattle.model.specs.Answers.{first}
 use Rattle.model.proofs.Answers.{by_answer}
 use Rattle.titles.specs.Adds.{titled}
 use Rattle.titles.proofs.Adding.{places_none}
-use Rattle.titles.specs.declared.Slot.{Slot}
-use Rattle.titles.specs.declared.Slot.TheVariants.{Extraction, Exports, Imports, Returns, WellExtraction}
+use Rattle.titles.specs.Slot.{Slot}
+use Rattle.titles.specs.Slot.{Extraction, Exports, Imports, Returns, WellExtraction}
 use Rattle.river.specs.Flow.{flow}
 use Rattle.river.proofs.Firsts.{nothing_passed}
 use Rattle.runoff.specs.Record.{gauged_on, sum_on}

@@ -25,8 +25,8 @@ use Rattle.model.specs.View.{View, view_of}
 use Rattle.model.specs.Answers.{Answer, refuse}
 use Rattle.model.proofs.Answers.{pass}
 use Rattle.runoff.specs.Mean.{rounded}
-use Rattle.titles.specs.declared.Slot.{Slot}
-use Rattle.titles.specs.declared.Slot.TheVariants.{Extraction, Exports, Imports, Returns, WellExtraction}
+use Rattle.titles.specs.Slot.{Slot}
+use Rattle.titles.specs.Slot.{Extraction, Exports, Imports, Returns, WellExtraction}
 use Rattle.titles.specs.Adds.{return_of, adds}
 use Rattle.basin.specs.Sound.{sound, flowing}
 use Rattle.basin.proofs.Soundness.{soundness}

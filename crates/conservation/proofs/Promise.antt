@@ -15,7 +15,7 @@ use Rattle.laws.proofs.Gathering.{sum_same, sum_plus}
 use Rattle.laws.proofs.Parts.{equal_parts, Less, less_pos, less_self, less_plus, less_equal}
 use Rattle.model.specs.declared.Balance.{Balance}
 use Rattle.model.specs.View.{View}
-use Rattle.titles.specs.declared.Slot.TheVariants.{Exports, Imports, Returns, WellExtraction}
+use Rattle.titles.specs.Slot.{Exports, Imports, Returns, WellExtraction}
 use Rattle.titles.specs.Adds.{return_of}
 use Rattle.figures.specs.declared.UnitFigures.{UnitFigures}
 use Rattle.river.specs.Flow.{flow, net, Ready}

@@ -10,8 +10,8 @@ use Rattle.laws.specs.Sum.{naturals, sum_of, only}
 use Rattle.laws.proofs.Gathering.{sum_same, sum_plus}
 use Rattle.model.specs.declared.Title.{Title}
 use Rattle.model.specs.declared.Title.TheVariants.{UnitWithdrawal, AquiferWithdrawal, UnitTransfer, AquiferTransfer, ReturningWithdrawal}
-use Rattle.titles.specs.declared.Slot.{Slot}
-use Rattle.titles.specs.declared.Slot.TheVariants.{Exports, Imports, Returns, WellExtraction}
+use Rattle.titles.specs.Slot.{Slot}
+use Rattle.titles.specs.Slot.{Exports, Imports, Returns, WellExtraction}
 use Rattle.titles.specs.Adds.{return_of, adds}
 use Rattle.basin.proofs.Soundness.{Exists, TitleSound, PlaceSound}
 use Rattle.refusal.specs.Steps.{giving_aquifer}

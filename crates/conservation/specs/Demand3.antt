@@ -19,8 +19,8 @@ use Rattle.model.specs.View.{View, view_of}
 use Rattle.model.specs.Answers.{Answer}
 use Rattle.runoff.specs.Mean.{divisor}
 use Rattle.runoff.specs.Record.{sum_on, gauged_on}
-use Rattle.titles.specs.declared.Slot.{Slot}
-use Rattle.titles.specs.declared.Slot.TheVariants.{Extraction, Exports, Imports, Returns, WellExtraction}
+use Rattle.titles.specs.Slot.{Slot}
+use Rattle.titles.specs.Slot.{Extraction, Exports, Imports, Returns, WellExtraction}
 use Rattle.titles.specs.Adds.{return_of, adds}
 use Rattle.river.specs.Flow.{downstream}
 use Rattle.figures.specs.Figures.{no_unit_figures, all_unit_figures, all_aquifer_figures}

@@ -23,6 +23,15 @@ table_of accepted number place b =
       aquifers = (figures_reply (view_of b)).aquifers;
     }
 
+-- The number and place of what failed, 0 if nothing did.
+abbrev pub failed_number : Ending → ℕ
+failed_number (Ok u) = 0
+failed_number (Err f) = number f.refusal
+
+abbrev pub failed_place : Ending → ℕ
+failed_place (Ok u) = 0
+failed_place (Err f) = f.place
+
 -- The table after the calls: the number and place of the record that failed, 0 if none did.
 abbrev pub table_by : Ending → Balance → Table
 table_by (Ok u) b = table_of true 0 0 b

@@ -12,9 +12,10 @@ use calls::Ran;
 use calls::tested::run_tested;
 use figures::{AquiferFigures, UnitFigures};
 use model::Balance;
+use record::{Ending, Failure};
 use report::ROOM;
 
-// The table of a book after its calls: whether its description was accepted, the number and place of a refusal or of a call record that
+// The table of a book after its calls, in the form that C reads: whether its description was accepted, the number and place of a refusal or of a call record that
 // failed (0 if none), and the figures, with 0 in the unused places.
 #[repr(C)]
 #[derive(Clone, Copy)]
@@ -35,17 +36,22 @@ pub fn hasheqro_print(book: &[u8], out: &mut [u8; ROOM]) -> usize
     listing::print_book(book, out)
 }
 
-// The table of a balance. Numbers of the size of the machine are cast: they have no `From` to those of 64 bits.
-fn table_of(accepted: bool, number: u8, place: usize, b: Balance) -> Table
-    ensures { result ≡ tables.table_of accepted number place b }
+// The table of a balance, and what refused the description or which record failed. Numbers of the size of the machine are cast: they have no
+// `From` to those of 64 bits.
+fn table_of(accepted: bool, ending: Ending, b: Balance) -> Table
+    ensures { result ≡ tables.table_of accepted (tables.failed_number ending) (tables.failed_place ending) b }
 {
     let figures = basin::reply::figures(b);
     let units = figures.units;
     let aquifers = figures.aquifers;
+    let (number, place) = match ending {
+        Ok(()) => (0, 0),
+        Err(failure) => (failure.refusal.number(), failure.place as u64),
+    };
     Table {
         accepted,
         number,
-        place: place as u64,
+        place,
         unit_count: b.unit_count as u64,
         aquifer_count: b.aquifer_count as u64,
         units,
@@ -57,10 +63,7 @@ fn table_of(accepted: bool, number: u8, place: usize, b: Balance) -> Table
 fn table_after(ran: Ran) -> Table
     ensures { result ≡ tables.table_after ran }
 {
-    match ran.ending {
-        Ok(()) => table_of(true, 0, 0, ran.balance),
-        Err(failure) => table_of(true, failure.refusal.number(), failure.place, ran.balance),
-    }
+    table_of(true, ran.ending, ran.balance)
 }
 
 // The table of a book: its description opened, its calls run.
@@ -70,7 +73,10 @@ pub fn hasheqro_figures(book: &[u8]) -> Table
     let opened = book::read_book(book);
     match opened.answer {
         Ok(()) => table_after(run_tested(book, opened.place, opened.balance, true)),
-        Err(refusal) => table_of(false, refusal.number(), opened.place, opened.balance),
+        Err(refusal) => {
+            let place = opened.place;
+            table_of(false, Err(Failure { refusal, place }), opened.balance)
+        }
     }
 }
 
