@@ -26,7 +26,8 @@ fn of_unit(gained: u64, lost: u64, split: &Split) -> UnitFigures
 }
 
 // The figures of each unit, from what the forward pass has left. Backward over the units: an outlet's committed volume is its commitment,
-// another unit's is its share of the demand below.
+// another unit's is its share of the demand below. By index: over `.enumerate().rev()` the loop's invariant would be about what the iterator has
+// left, in place of the index.
 pub fn unit_figures(tree: &Tree, amounts: &Amounts) -> [UnitFigures; Balance::UNITS]
     requires { Flows (units_of tree.now) amounts.now }
     ensures { result ≡ figures.all_unit_figures (units_of tree.now) }
@@ -80,7 +81,7 @@ pub fn of_aquifer(a: &Aquifer) -> AquiferFigures
     }
 }
 
-// The figures of each aquifer.
+// The figures of each aquifer. Each index counts two arrays: over a `zip` the loop's invariant would be about what two iterators have left.
 pub fn aquifer_figures(aquifers: &[Aquifer]) -> [AquiferFigures; Balance::AQUIFERS]
     requires { figures.WellsReady (aquifers_of aquifers.now) }
     ensures { result ≡ figures.all_aquifer_figures (aquifers_of aquifers.now) }

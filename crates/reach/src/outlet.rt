@@ -5,7 +5,8 @@ ghost use Rattle.reach.specs.Passes.{Outlets};
 use model::Balance;
 use river::Tree;
 
-// Backward over the units: an outlet is its own, another unit's outlet is its downstream unit's.
+// Backward over the units: an outlet is its own, another unit's outlet is its downstream unit's. By index: over `.enumerate().rev()` the loop's
+// invariant would be about what the iterator has left, in place of the index.
 pub fn outlets(tree: &Tree) -> [usize; Balance::UNITS]
     ensures { Outlets (units_of tree.now) result }
 {
