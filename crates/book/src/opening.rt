@@ -71,7 +71,8 @@ fn ended(mut b: Balance, p: &Progress, at: usize) -> Result<(usize, Balance), Fa
     tested(b, at)
 }
 
-// Reads the description of a book record by record into a balance, to its end, whose offset it gives, or to the first refusal. Each record takes bytes, so fewer are left.
+// Reads the description of a book record by record into a balance, to its end, whose offset it gives, or to the first refusal. Each record
+// takes bytes, so fewer are left.
 fn read(s: &[u8]) -> Result<(usize, Balance), Failure>
     ensures { opening.handed_back result ≡ reading.opened s.now }
 {
