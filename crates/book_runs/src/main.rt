@@ -14,7 +14,7 @@ fn print(rt: &impl Print, book: &[u8]) -> io::Result<()> {
     io::writer(rt).write_all(&out[..n])
 }
 
-// `main` of `journal_runs` differs in the size and in what is called, as that of `balance` does of its twin's.
+// `main` of `journal_runs` differs in the size and in what is called: a function over both would leave as many lines to each of them.
 fn main(rt: HostRuntime) -> io::Result<()> {
     let mut room = [0u8; ROOM];
     named::each(&rt, &mut room, &mut |book: &[u8]| print(&rt, book))

@@ -15,8 +15,8 @@ use model::Balance;
 use record::{Ending, Failure};
 use report::ROOM;
 
-// The table of a book after its calls, in the form that C reads: whether its description was accepted, the number and place of a refusal or of a call record that
-// failed (0 if none), and the figures, with 0 in the unused places.
+// The table of a book after its calls, in the form that C reads: whether its description was accepted, the number and place of a refusal or
+// of a call record that failed (0 if none), and the figures, with 0 in the unused places.
 #[repr(C)]
 #[derive(Clone, Copy)]
 pub struct Table {

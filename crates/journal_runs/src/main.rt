@@ -12,7 +12,7 @@ fn print(rt: &impl Print, journal: &[u8]) -> io::Result<()> {
     output::put_journal(&mut io::writer(rt), journal, &mut out)
 }
 
-// `main` of `book_runs` differs in the size and in what is called, as that of `journal` does of its twin's.
+// `main` of `book_runs` differs in the size and in what is called: a function over both would leave as many lines to each of them.
 fn main(rt: HostRuntime) -> io::Result<()> {
     let mut room = [0u8; ROOM];
     named::each(&rt, &mut room, &mut |journal: &[u8]| print(&rt, journal))

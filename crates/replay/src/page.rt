@@ -16,8 +16,8 @@ use text::Page;
 // The most records of a page: 1,048,576 bytes of the buffer hold their replies, of at most 64 bytes each.
 const PAGE: usize = 16_384;
 
-// What was replayed, the current balance standing apart from what is kept: one literal for the three places where a page ends, which differ in
-// four of its values.
+// What was replayed, the current balance standing apart from what is kept: one literal for the three places where a page ends. `Replayed` would
+// have to be made without its state to take fewer values.
 fn replayed(
     kept: State,
     balance: Balance,

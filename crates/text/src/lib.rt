@@ -4,7 +4,7 @@
 
 use itoa::{Buffer, Integer};
 
-// A page. Its first `len` bytes are written.
+// A page. Its first `len` bytes are written. The length stands beside the buffer as private state of this one type.
 #[derive(Drop)]
 pub struct Page<'a> {
     out: &'a mut [u8],
