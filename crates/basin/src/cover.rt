@@ -34,8 +34,9 @@ fn aquifer_holds(a: &Aquifer, together: u64) -> bool
     aquifer_sound(*a) && together <= u64::from(a.extraction)
 }
 
-// Every unit is sound, and no entry of it is exceeded by its titles. The index stays: it is the unit's number less one, and the place of its
-// sums in four arrays, so that `enumerate` would hand over the same index.
+// Every unit is sound, and no entry of it is exceeded by its titles. It stays beside `aquifers_hold`, which tests other entries by other sums.
+// The index stays: it is the unit's number less one, and the place of its sums in four arrays, so that `enumerate` would hand over the same
+// index.
 pub fn units_hold(units: &[Unit], sums: &Sums) -> bool
     requires { length units.now ≤ unit_limit }
     ensures { result ≡ every (length units.now) (sounds.unit_holds units.now sums.now) }

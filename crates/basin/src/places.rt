@@ -48,9 +48,24 @@ pub fn missing(t: Title, n: usize, m: usize) -> Answer
     Ok(())
 }
 
-// A title's units, aquifers and use exist, and its volume is in its range.
+// A title's units, aquifers and use exist, and its volume is in its range. It answers a truth value, which is all that the test for 0 asks, by a
+// match of its own: by `missing` each title takes 53 instructions in place of 41 there.
 pub fn title_sound(t: Title, units: usize, aquifers: usize) -> bool
     ensures { result ≡ sounds.sound_title units aquifers t }
 {
-    missing(t, units, aquifers).is_ok() && is_volume(t.volume())
+    let there = match t {
+        Title::UnitWithdrawal { unit, usage, .. } => exists(units, unit) && exists(USES, usage),
+        Title::AquiferWithdrawal { aquifer, .. } => exists(aquifers, aquifer),
+        Title::UnitTransfer { from, to, .. } => exists(units, from) && exists(units, to),
+        Title::AquiferTransfer { aquifer, unit, .. } => {
+            exists(aquifers, aquifer) && exists(units, unit)
+        }
+        Title::ReturningWithdrawal {
+            aquifer,
+            unit,
+            usage,
+            ..
+        } => exists(aquifers, aquifer) && exists(units, unit) && exists(USES, usage),
+    };
+    there && is_volume(t.volume())
 }

@@ -51,7 +51,8 @@ fn flowing(amounts: &Amounts, n: usize) -> bool
         .all(|(lost, gained)| lost <= gained)
 }
 
-// The test for 0: what the forward pass gives of the units, where the balance is sound.
+// The test for 0: what the forward pass gives of the units, where the balance is sound. Each test is a statement of its own, since the next one
+// reads what is in bounds only after it.
 pub fn tested(b: &Balance) -> Option<Amounts>
     ensures value { is_some result ≡ sounds.sound (view_of b.now) }
     ensures amounts { IfSome result (Flows (units_of (take b.now.unit_count b.now.units))) }

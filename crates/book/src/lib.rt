@@ -17,7 +17,7 @@ pub enum Next {
 }
 
 // The reply of opening a book: accepted, with the offset where the description ends and the balance, or refused under a number, with its
-// place and the fresh balance.
+// place and the fresh balance. Place and balance stand beside the answer, since both are promised in either case.
 #[derive(Clone, Copy)]
 pub struct Opened {
     pub answer: model::Answer,

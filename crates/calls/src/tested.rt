@@ -10,6 +10,7 @@ use record::{CallAt, Failure};
 
 // Runs every call that stands in a book from an offset on; `sound` says what the test for 0 gave. It serves every call, since an accepted
 // call leaves a sound balance. The two are no struct with an invariant: it would be taken apart and made again at every accepted call.
+// A record tells where the next one is, so that there is no range for a `for`.
 pub fn run_tested(s: &[u8], from: usize, balance: Balance, sound: bool) -> Ran
     requires { sound ≡ sounds.sound (view_of balance) }
     ensures { result ≡ running.ran s.now from balance }

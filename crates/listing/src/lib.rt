@@ -195,7 +195,8 @@ fn ran_lines(page: &mut Page, ran: Ran)
     table(page, ran.balance);
 }
 
-// What is printed for a sound balance: the call lines, then what follows them.
+// What is printed for a sound balance: the call lines, then what follows them. That it is sound stays a clause here and of `call_lines`: a type of
+// sound balances would be taken apart at each accepted call.
 fn run_lines(s: &[u8], from: usize, balance: Balance, page: &mut Page)
     requires { (length s.now ≤ 65536) × ((sound (view_of balance) ≡ true) × Fits 1060992 page.old) }
     ensures { Puts 1060992 page.old (text.run_text s.now from balance) page.new }

@@ -59,7 +59,7 @@ impl Name {
     // How many bytes a name has.
     pub const BYTES: usize = 8;
 
-    // The name in a place that is not in use.
+    // The name in a place that is not in use. It stays beside `Default`: its contract names the value.
     pub fn empty() -> Self
         ensures { result ≡ states.empty_name }
     {

@@ -21,7 +21,7 @@ fn is_new(kept: &[Kept], place: usize) -> bool
     place_of(&kept[..place], kept[place].name).is_none()
 }
 
-// No two of some places have the same name.
+// No two of some places have the same name. By index: each place is compared with those before it.
 pub(crate) fn distinct(kept: &[Kept]) -> bool
     ensures { result ≡ named.distinct (name_at kept.now) (length kept.now) }
 {

@@ -13,6 +13,7 @@ fn kept_sound(kept: &[Kept]) -> bool
 }
 
 // A state is sound if its current balance is, no more than four balances are kept, each of them is sound, and no name is kept twice.
+// The count is tested first: the slice needs it.
 #[tactic(auto, unfolding(crate::specs::State::sound_state))]
 pub fn sound(s: &State) -> bool
     ensures { result ≡ states.sound_state s.now }

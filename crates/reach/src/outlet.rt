@@ -6,7 +6,7 @@ use model::Balance;
 use river::Tree;
 
 // Backward over the units: an outlet is its own, another unit's outlet is its downstream unit's. By index: over `.enumerate().rev()` the loop's
-// invariant would be about what the iterator has left, in place of the index.
+// invariant would be about what the iterator has left, in place of the index. The array has a place for each unit that there can be: there is no heap.
 pub fn outlets(tree: &Tree) -> [usize; Balance::UNITS]
     ensures { Outlets (units_of tree.now) result }
 {

@@ -9,7 +9,8 @@ ghost use Rattle.report.specs.Calls.{outcome_line, outcome_text};
 
 use text::Page;
 
-// The size of the buffer: room for 16,384 call lines, as many as a book of 65,536 bytes can have calls, and for the table.
+// The size of the buffer: room for 16,384 call lines, as many as a book of 65,536 bytes can have calls, and for the table. Public calls have it in
+// the type of the buffer that they are lent, which spares them a clause about room.
 pub const ROOM: usize = 1_064_960;
 
 // `unit N F C R A`: the unit's number, flow, committed volume, own reserve and availability.

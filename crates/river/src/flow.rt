@@ -27,7 +27,7 @@ pub fn loss(u: &Unit) -> u64
 }
 
 // What the forward pass over the units works out, with 0 in the unused places. An array for each amount, since the definitions state what a
-// unit gathers of one array, and the running totals of two: an array of structs is no plainer there.
+// unit gathers of one array, and the running totals of two: an array of structs is no plainer there. There is no heap, so each has all places.
 #[derive(Drop)]
 pub struct Amounts {
     // All that is gained, and lost, at each unit and above it.

@@ -11,7 +11,7 @@ use model::Balance;
 
 impl Tree<'_> {
     // The lowest-numbered unit with a negative flow, if there is one: more is lost at it than arrives from above and is gained there. Forward
-    // over the units, the flow of each goes on to its downstream unit.
+    // over the units, the flow of each goes on to its downstream unit. The array has a place for each unit that there can be: there is no heap.
     pub fn first_negative(&self) -> Option<usize>
         ensures { let v = units_of self.now in result ≡ first v.units (λ j. not (non_neg (flow v j))) }
     {

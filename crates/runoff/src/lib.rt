@@ -9,7 +9,7 @@ ghost use Rattle.runoff.specs.Mean.{Divides, MeanRange};
 ghost use Rattle.runoff.specs.Mean as means;
 ghost use Rattle.runoff.specs.Record.{gauged_of};
 
-// K in hundredths, a row for each cover from 1 to 14, for soils A, B, C.
+// K in hundredths, a row for each cover from 1 to 14, for soils A, B, C. The project fixes that it is a constant table.
 const K: [[u8; 3]; 14] = [
     [26, 28, 30],
     [24, 27, 30],
