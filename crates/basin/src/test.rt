@@ -64,8 +64,7 @@ pub fn tested(b: &Balance) -> Option<Amounts>
     if !entries_hold(b) {
         return None;
     }
-    let mut amounts = Amounts::none();
-    amounts.flow(&Tree::new(&b.units[..n]));
+    let amounts = Amounts::of(&Tree::new(&b.units[..n]));
     if !flowing(&amounts, n) {
         return None;
     }

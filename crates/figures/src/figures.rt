@@ -63,9 +63,7 @@ pub fn unit_figures(tree: &Tree, amounts: &Amounts) -> [UnitFigures; Balance::UN
 pub fn of_units(tree: &Tree) -> [UnitFigures; Balance::UNITS]
     ensures { result ≡ figures.all_unit_figures (units_of tree.now) }
 {
-    let mut amounts = Amounts::none();
-    amounts.flow(tree);
-    unit_figures(tree, &amounts)
+    unit_figures(tree, &Amounts::of(tree))
 }
 
 // An aquifer's recharge and availability, from what it gains and what it loses.

@@ -3,7 +3,7 @@ use Prim.Native.Nat.{ℕ, suc, pred, ◌+◌, ◌≤◌, ◌<◌}
 use mathlib.Core.Path.{◌≡◌, ap, ◌∙◌}
 use mathlib.Core.Bool.{Bool, true, false}
 use mathlib.Core.List.{List}
-use lib.ListN.{get_or, set}
+use lib.ListN.{get_or, set, replicate}
 use native.Mathlib.Omega.{arith}
 use borrow.Author.Tests.{eq-eqb, ne_eqb}
 use Rattle.laws.proofs.Gathering.{arriving_stays}
@@ -12,7 +12,7 @@ use Rattle.model.specs.View.{View}
 use Rattle.river.specs.declared.flow.Amounts.{Amounts}
 use Rattle.river.specs.Flow.{downstream, part, gathered, Ready}
 use Rattle.river.specs.Reserve.{contribution, running_total}
-use Rattle.river.specs.Passes.{running_before, Clear, Flows}
+use Rattle.river.specs.Passes.{running_before, Flows}
 use Rattle.river.proofs.Flows.{tree, gathered_is}
 use Rattle.river.proofs.Reserves.{below_of, running_within, total_small}
 use Rattle.river.proofs.Carried.{Carried, carried_start, carried_whole, whole_out, whole_on, left_small, rest_none, carried_gathered}
@@ -25,13 +25,15 @@ pub record Passed (v : View) (i : ℕ) (a : Amounts) : Type 0 where
   pub before : Filled 64 0 (running_before v) i a.before
   pub arrived : Arrived 64 (downstream v) (contribution v) i a.arrived
 
-pub passed_none : (v : View) (a : Amounts) → Clear a → Passed v 0 a
-passed_none v a c =
+-- Before the pass there is 0 in every place.
+pub passed_none : (v : View)
+    → Passed v 0 (record { gained = replicate 64 0; lost = replicate 64 0; before = replicate 64 0; arrived = replicate 64 0 })
+passed_none v =
     record {
-      gained = rw c.gained (carried_start 64 _ _);
-      lost = rw c.lost (carried_start 64 _ _);
-      before = rw c.before (filled_start 64 0 _);
-      arrived = rw c.arrived (arrived_start 64 _ _);
+      gained = carried_start 64 _ _;
+      lost = carried_start 64 _ _;
+      before = filled_start 64 0 _;
+      arrived = arrived_start 64 _ _;
     }
 
 -- The place of the downstream unit: a later unit of the balance.

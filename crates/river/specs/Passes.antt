@@ -1,5 +1,5 @@
 -- The replies of the passes over the tree that work out the figures. Assumes nothing.
-use Rattle.std.specs.Prelude.{ℕ, pred, ◌+◌, ◌≤◌, ◌<◌, ◌≡◌, true, false, cond, List, eqb, length, get_or, replicate}
+use Rattle.std.specs.Prelude.{ℕ, pred, ◌+◌, ◌≤◌, ◌<◌, ◌≡◌, true, false, cond, List, eqb, length, get_or}
 use Rattle.model.specs.declared.Unit.{Unit}
 use Rattle.model.specs.View.{View}
 use Rattle.model.specs.Limits.{unit_limit}
@@ -20,13 +20,6 @@ pub record RunningTotals (v : View) (before arrived : List ℕ) : Type 0 where
   pub each_arrived : (w : ℕ) → w < v.units → get_or arrived w 0 ≡ running_total v w w
   pub rest_before : (j : ℕ) → v.units ≤ j → get_or before j 0 ≡ 0
   pub rest_arrived : (w : ℕ) → v.units ≤ w → get_or arrived w 0 ≡ 0
-
--- The amounts that the forward pass works out, before it: 0 in every place.
-pub record Clear (a : Amounts) : Type 0 where
-  pub gained : a.gained ≡ replicate unit_limit 0
-  pub lost : a.lost ≡ replicate unit_limit 0
-  pub before : a.before ≡ replicate unit_limit 0
-  pub arrived : a.arrived ≡ replicate unit_limit 0
 
 -- The reply of the forward pass: all that is gained and lost at each unit and above it, the running total before it at its downstream
 -- unit, and the total of the units that drain straight into it; 0 in the unused places.

@@ -40,39 +40,32 @@ pub struct Amounts {
 }
 
 impl Amounts {
-    ghost use Rattle.river.specs.Passes.{Clear, Flows};
+    ghost use Rattle.river.specs.Passes.{Flows};
 
-    // 0 in every place.
-    pub fn none() -> Self
-        ensures { Clear result }
+    // Forward over the units of a tree: all that is gained and lost at each unit and above it goes on to its downstream unit, and its
+    // contribution is added to what has arrived there.
+    pub fn of(tree: &Tree) -> Self
+        ensures { Flows (units_of tree.now) result }
     {
-        Amounts {
+        let units = tree.units();
+        let mut amounts = Amounts {
             gained: [0; Balance::UNITS],
             lost: [0; Balance::UNITS],
             before: [0; Balance::UNITS],
             arrived: [0; Balance::UNITS],
-        }
-    }
-
-    // Forward over the units of a tree: all that is gained and lost at each unit and above it goes on to its downstream unit, and its
-    // contribution is added to what has arrived there.
-    // In place (tried: amounts handed back, and kept in a struct with their tree; moving them takes 2 to 7 % more instructions for the figures).
-    pub fn flow(&mut self, tree: &Tree)
-        requires { Clear self.old }
-        ensures { Flows (units_of tree.now) self.new }
-    {
-        let units = tree.units();
+        };
         for (i, u) in units.iter().enumerate() {
-            let more = self.gained[i] + gain(u);
-            let less = self.lost[i] + loss(u);
-            self.gained[i] = more;
-            self.lost[i] = less;
+            let more = amounts.gained[i] + gain(u);
+            let less = amounts.lost[i] + loss(u);
+            amounts.gained[i] = more;
+            amounts.lost[i] = less;
             if let Some(k) = u.drains_to() {
-                self.gained[k] += more;
-                self.lost[k] += less;
-                self.before[i] = self.arrived[k];
-                self.arrived[k] += contribution(more, less);
+                amounts.gained[k] += more;
+                amounts.lost[k] += less;
+                amounts.before[i] = amounts.arrived[k];
+                amounts.arrived[k] += contribution(more, less);
             }
         }
+        amounts
     }
 }

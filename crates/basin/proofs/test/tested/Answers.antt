@@ -68,8 +68,8 @@ new-requires c =
     ready_same _ _ (same here (omega (arith, f.units, length-take b.unit_count b.units))) (ready here)
 
 -- The amounts are those of the counted units.
-flows : (c : After-flowing) → Flows (units_of (take c.args.b.now.unit_count c.args.b.now.units)) c.flow.new.self
-flows c = rw c.new.ensures at c.flow.ensures
+flows : (c : After-flowing) → Flows (units_of (take c.args.b.now.unit_count c.args.b.now.units)) c.of-amounts.result
+flows c = rw c.new.ensures at c.of-amounts.ensures
 
 pub flowing-requires : goal.flowing-requires
 flowing-requires c = (ready (goal.at.flowing-requires c).Else-not-entries_hold).few
