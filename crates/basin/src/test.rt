@@ -51,24 +51,17 @@ fn flowing(amounts: &Amounts, n: usize) -> bool
         .all(|(lost, gained)| lost <= gained)
 }
 
-// The test for 0: what the forward pass gives of the units, where the balance is sound. Each test is a statement of its own, since the next one
-// reads what is in bounds only after it.
+// The test for 0: what the forward pass gives of the units, where the balance is sound.
 pub fn tested(b: &Balance) -> Option<Amounts>
     ensures value { is_some result ≡ sounds.sound (view_of b.now) }
     ensures amounts { IfSome result (Flows (units_of (take b.now.unit_count b.now.units))) }
 {
     let n = b.unit_count;
-    if !counts_sound(n, b.aquifer_count, b.given) {
-        return None;
-    }
-    if !entries_hold(b) {
+    if !counts_sound(n, b.aquifer_count, b.given) || !entries_hold(b) {
         return None;
     }
     let amounts = Amounts::of(&Tree::new(&b.units[..n]));
-    if !flowing(&amounts, n) {
-        return None;
-    }
-    Some(amounts)
+    flowing(&amounts, n).then_some(amounts)
 }
 
 // A balance is sound if it has none of the faults for which every call first gives 0. It is handed by value: a rule of the project.

@@ -72,7 +72,8 @@ fn ended(mut b: Balance, p: &Progress, at: usize) -> Result<(usize, Balance), Fa
 }
 
 // Reads the description of a book record by record into a balance, to its end, whose offset it gives, or to the first refusal. Each record
-// takes bytes, so fewer are left.
+// takes bytes, so fewer are left. A record tells where the next one is, so that there is no range for a `for`; units and aquifers are counted as
+// they are read.
 fn read(s: &[u8]) -> Result<(usize, Balance), Failure>
     ensures { opening.handed_back result ≡ reading.opened s.now }
 {

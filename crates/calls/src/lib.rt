@@ -10,7 +10,8 @@ use model::Balance;
 use record::Ending;
 use tested::run_tested;
 
-// What running the calls of a book gives: how they end, and the balance after those that stand before the end.
+// What running the calls of a book gives: how they end, and the balance after those that stand before the end. The balance
+// stands beside the ending, since it is promised however they end.
 #[derive(Clone, Copy)]
 pub struct Ran {
     pub ending: Ending,

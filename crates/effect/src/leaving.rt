@@ -19,7 +19,8 @@ pub fn lowered_units(mut units: [Unit; Balance::UNITS], t: Title) -> [Unit; Bala
     units
 }
 
-// The balance with the title under a number out of force: every entry lowered by what the title added, and its place kept.
+// The balance with the title under a number out of force: every entry lowered by what the title added, and its place kept. `post` and
+// this stay two: each makes its own place, index and count for `changed_balance`, which both call.
 pub fn take_back(b: Balance, number: u16) -> Balance
     requires { (0 < number) × (number ≤ title_limit) × cancels.Takable b (cancels.title_of (view_of b) number) }
     ensures { result ≡ cancels.without_title b number }

@@ -1,5 +1,5 @@
-// The figures of each unit, by the passes over the tree, and of each aquifer. An array has a place for each unit that there can be: there is no
-// heap.
+// The figures of each unit, by the passes over the tree, and of each aquifer. An array has a place for each unit or aquifer that there can be:
+// there is no heap.
 ghost use Rattle.std.specs.Prelude.{◌≡◌, ◌≤◌};
 ghost use Rattle.laws.specs.Signed.{above, below};
 ghost use Rattle.model.specs.Limits.{term_limit};

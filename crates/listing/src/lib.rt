@@ -164,7 +164,8 @@ fn call_lines(s: &[u8], from: usize, balance: Balance, page: &mut Page) -> Ran
     Ran { ending, balance: b }
 }
 
-// The line of a refused description or of a record that failed.
+// The line of a refused description or of a record that failed. Refusal and place stay two parameters: of its callers only `end_line` has them in
+// a `Failure`.
 pub fn refused_line(page: &mut Page, refusal: Refusal, place: usize)
     requires { Fits 128 page.old }
     ensures { Puts 128 page.old (refused_line (number refusal) place) page.new }

@@ -194,6 +194,7 @@ impl Aquifer {
     }
 }
 
+// By hand: a derive would ask a default of `Title`, which has none.
 impl Default for Place {
     ghost is_default = { λ place. place ≡ fresh.empty_place };
 

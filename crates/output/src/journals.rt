@@ -1,4 +1,5 @@
-// Writing what is printed for a journal, page by page.
+// Writing what is printed for a journal, page by page. The buffer is lent in its size: memory is fixed, and a slice would need a clause about its
+// room.
 ghost use Rattle.std.specs.Prelude.{◌≡◌, ◌≤◌, true, length, OnOk};
 ghost use Rattle.std.specs.Io.KnownBytes.{Appends};
 ghost use Rattle.replay.specs.Journal.{journal_limit, journal_text};

@@ -12,6 +12,7 @@ use model::{Answer, Balance};
 
 // Keeps a balance under a name: in the name's place, or under a new name in the next one. The balance stands for the current one of a
 // state that was tested for 0, and `sound` says what the test gave. The state's own balance is not read. A refused state stays as it was.
+// What is added to is how many are kept; it counts no loop.
 pub fn keep_apart(s: &mut State, balance: Balance, sound: bool, name: Name) -> Answer
     requires { sound ≡ sound_state (replies.with_current s.old balance) }
     ensures answer { result ≡ (replies.keep_reply (replies.with_current s.old balance) name).answer }

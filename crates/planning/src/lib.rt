@@ -38,7 +38,8 @@ pub struct State {
 }
 
 // The reply of keeping and of going back: the answer, 0 as the number, since no title is concerned, and the state to go on with. The answer
-// stands beside the state and holds none, since a refused call hands back the old state.
+// stands beside the state and holds none, since a refused call hands back the old state. It stays beside `register::Reply`: one generic type would
+// lose the names `balance` and `state` of what is handed back.
 #[derive(Clone, Copy)]
 pub struct Reply {
     pub answer: model::Answer,
@@ -47,7 +48,8 @@ pub struct Reply {
 }
 
 // The reply of opening a book as a state: accepted, with the offset where the description ends and the state in which nothing is kept, or
-// refused under a number, with its place and the fresh state. So place and state stand beside the answer here too.
+// refused under a number, with its place and the fresh state. So place and state stand beside the answer here too, and
+// the type stays beside `book::Opened`, as `Reply` beside the register's.
 #[derive(Clone, Copy)]
 pub struct Opened {
     pub answer: model::Answer,

@@ -1,5 +1,6 @@
 // For timing: keeping, going back and an ordinary call, many times over, on the state of a book in which four balances are kept. The crate
-// `planning_times_c` exports these functions to C. They are three steps of one loop, each of which calls another function.
+// `planning_times_c` exports these functions to C. They are three steps of one loop. The first two differ in the function that
+// they call: one function over both would take it as a closure, with clauses as long as what it spares.
 #![tactic(auto)]
 
 ghost use Rattle.std.specs.Prelude.{◌≡◌, ℕ};

@@ -1,5 +1,6 @@
 // Fields of a record, little-endian. A slice and an offset with `i + n ≤ length` stay parameters, here and where records are read: each field and
-// each record has its own length n, so a type that holds the bound would be one for each length.
+// each record has its own length n, so a type that holds the bound would be one for each length. `bits16` and `bits32` stay two: no trait of std
+// has `from_le_bytes`, so a generic one would need a trait of ours for two bodies of one line.
 ghost use Rattle.std.specs.Prelude.{◌≡◌, ◌+◌, ◌≤◌, ◌<◌, length};
 ghost use Rattle.record.specs.Bytes as bytes;
 ghost use Rattle.record.specs.Bytes.{Half};

@@ -73,7 +73,8 @@ fn goes_down(tree: &Tree, m: usize, t: Title) -> bool
     }
 }
 
-// What a grant refuses before its water is looked at, first match wins. The clause bounds a slice, whose length no type bounds.
+// What a grant refuses before its water is looked at, first match wins. The clause bounds a slice, whose length no type bounds. Tree and
+// aquifers stay two parameters here and in `no_water`: a struct of both would be made for each call and taken apart at once.
 pub fn early(tree: &Tree, aquifers: &[Aquifer], given: usize, t: Title) -> Answer
     requires { length aquifers.now ≤ aquifer_limit }
     ensures { result ≡ steps.early_fault (entries_of tree.now aquifers.now given) t }

@@ -60,7 +60,8 @@ impl FromStr for Command {
     }
 }
 
-// Prints the reply to keeping or going back, and goes on with its state.
+// Prints the reply to keeping or going back, and goes on with its state. This and `asked` stay two: one over both types of reply would need a
+// trait, for bodies of two lines.
 fn planned<W: Write>(
     out: &mut W,
     state: &mut State,

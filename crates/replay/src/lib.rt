@@ -45,7 +45,8 @@ impl Replayed {
     }
 }
 
-// The table of a balance, which is handed by value as everywhere, from the start of the buffer on, and how many bytes it takes.
+// The table of a balance, which is handed by value as everywhere, from the start of the buffer on, and how many bytes it takes: the caller has the
+// buffer. It is lent in its size: memory is fixed, and a slice would need a clause about its room.
 pub fn table(balance: Balance, out: &mut [u8; ROOM]) -> usize
     ensures { Written 1064960 out.old 0 (table_text (view_of balance)) out.new result }
 {

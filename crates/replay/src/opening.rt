@@ -37,7 +37,8 @@ pub fn open_journal(s: &[u8]) -> Opened
     o
 }
 
-// How a journal begins: nothing yet for an accepted description, or the line of its refusal.
+// How a journal begins: nothing yet for an accepted description, or the line of its refusal. The buffer is lent in its size: memory is fixed, and a
+// slice would need a clause about its room.
 pub fn begin_journal(s: &[u8], out: &mut [u8; ROOM]) -> Replayed
     ensures { Replied (journals.begun s.now) out.old out.new result }
 {

@@ -1,4 +1,5 @@
-// The replies to the records of a journal, one record or one page of them at a time.
+// The replies to the records of a journal, one record or one page of them at a time. The buffer is lent in its size: memory is fixed, and a slice
+// would need a clause about its room.
 ghost use Rattle.std.specs.Prelude.{◌≡◌, ◌≤◌};
 ghost use Rattle.planning.specs.Calls.{with_current};
 ghost use Rattle.replay.specs.Page as pages;
@@ -40,8 +41,8 @@ fn replayed(
 // The replies to at most so many records from an offset on, the first of them at place `first` among the records of its journal. The
 // current balance stands apart from what is kept, so that a call changes it alone: an accepted one takes as many instructions as in `balance`.
 // It is a loop beside `listing::call_lines`, since the records are others and so is the state. A name's bytes are read once, where they are
-// needed: `RecordAt` has none. The count is a `usize` as `Replayed` has it, cast by `as u64`, since std has no `From` of it for `u64`. Cut into
-// a struct of the four values with a method for each kind of record, an accepted call takes 6,005 instructions in place of 4,956.
+// needed: `RecordAt` has none. The count is a `usize` as `Replayed` has it, cast by `as u64`, since std has no `From` of it for `u64`. The four
+// values stay variables of this loop: a struct of them would be made and read here alone.
 fn replies(
     state: State,
     s: &[u8],

@@ -84,7 +84,8 @@ pub struct Soils {
 
 impl Soils {
     // A rain year of p tenths gives p × 3 × S × (p − 2500), and where S exceeds 15 × A also p × 40,000 × (S − 15 × A), in
-    // 6,000,000,000ths. The second part stays a branch: with saturating_sub in its place opening a book takes a third more instructions.
+    // 6,000,000,000ths. The second part stays a branch: with saturating_sub in its place opening a book of rain takes a third more instructions,
+    // which misses the bar of 1.5 times the fast model.
     #[tactic(auto, unfolding(crate::specs::Year::rain_year))]
     pub fn rain_year(self, tenths: u64) -> u64
         requires { RainRange self.area self.weighted tenths }

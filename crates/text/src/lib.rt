@@ -30,7 +30,7 @@ impl<'a> Page<'a> {
         self.len
     }
 
-    // Puts one byte.
+    // Puts one byte. What is added to is how much is written; it counts no loop.
     #[tactic(auto, using(crate::proofs::Writing::stores))]
     pub fn byte(&mut self, b: u8)
         requires { Fits 1 self.old }
@@ -61,7 +61,7 @@ impl<'a> Page<'a> {
         self.word(buffer.format(n).as_bytes());
     }
 
-    // Puts a space and n's decimal digits.
+    // Puts a space and n's decimal digits. It stays beside `signed`: each promises its digits by a definition of its own.
     #[tactic(auto, using(crate::proofs::Decimal::decimal_written))]
     pub fn number(&mut self, n: u64)
         requires { Fits 21 self.old }

@@ -10,6 +10,7 @@ use model::{Balance, Title};
 
 // What titles add together to each entry, for each unit or aquifer: number n stands at n - 1. Five arrays, since `specs/` states each of the
 // five by itself and `add` raises one entry at a time; `wells` has as many places as the others, so that one `raise` serves all.
+// There is no heap, so each has all places.
 #[derive(Clone, Copy)]
 pub struct Sums {
     pub extraction: [u64; Balance::UNITS],

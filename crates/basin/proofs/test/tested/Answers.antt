@@ -1,8 +1,10 @@
 -- `basin::tested` meets its contract. Assumes nothing.
 use Prim.Native.Nat.{◌≤◌}
-use mathlib.Core.Path.{◌≡◌, refl, sym, ◌∙◌}
+use mathlib.Core.Path.{◌≡◌, refl, sym, ap, ◌∙◌}
 use native.Mathlib.Omega.{arith}
-use mathlib.Core.Bool.{Bool, true, ◌&&◌}
+use mathlib.Core.Bool.{Bool, false, true, ◌&&◌}
+use Rattle.std.specs.Prelude.{is_some, IfSome}
+use Rattle.std.specs.Bool.{then_some}
 use lib.ListN.{take, length, length-take}
 use Rattle.model.specs.View.{View, view_of}
 use Rattle.river.specs.Flow.{Ready}
@@ -13,13 +15,7 @@ use Rattle.basin.specs.Sound.{sound, sound_counts, entries_hold}
 use Rattle.basin.proofs.Chains.{stop_call, go_call, call_holds}
 use Rattle.basin.proofs.Order.{Few, few_of, entries_ready, none_negative, in_order_lem}
 use Rattle.basin.proofs.test.tested.Goals as goal
-use Rattle.basin.proofs.test.tested.Goals.{Else-not-counts_sound, Else-not-entries_hold, After-flowing}
-
-pub returns-then-not-counts_sound : goal.returns-then-not-counts_sound
-returns-then-not-counts_sound c = record {
-  value = in_order_lem _ _ (stop_call _ _ _ c.counts_sound.ensures c.if-not-counts_sound.true);
-  amounts = tt;
-}
+use Rattle.basin.proofs.test.tested.Goals.{Else-not-counts_sound, Else-not-entries_hold, After-flowing, then-not-counts_sound-via-then-not-counts_sound, then-not-counts_sound-via-else-not-counts_sound+then-not-entries_hold}
 
 -- The view of the balance, and that the counts are within their limits.
 abbrev counted : Else-not-counts_sound → View
@@ -38,12 +34,18 @@ past-counts c r x e = go_call _ _ x r c.counts_sound.ensures c.if-not-counts_sou
 pub entries_hold-requires : goal.entries_hold-requires
 entries_hold-requires c = counts-hold (goal.at.entries_hold-requires c).Else-not-counts_sound
 
-pub returns-then-not-entries_hold : goal.returns-then-not-entries_hold
-returns-then-not-entries_hold c = record {
-  value = in_order_lem _ _
-      (past-counts (goal.at.returns-then-not-entries_hold c).Else-not-counts_sound _ _ (stop_call _ _ _ c.entries_hold.ensures c.if-not-entries_hold.true));
-  amounts = tt;
-}
+pub returns-then-not-counts_sound : goal.returns-then-not-counts_sound
+returns-then-not-counts_sound c = elim c.then-not-counts_sound.branch [
+  | then-not-counts_sound-via-then-not-counts_sound w ↦ record {
+    value = in_order_lem _ _ (stop_call _ _ _ c.counts_sound.ensures w.if-not-counts_sound.true);
+    amounts = tt;
+  }
+  | then-not-counts_sound-via-else-not-counts_sound+then-not-entries_hold w ↦ record {
+    value = in_order_lem _ _
+        (go_call _ _ _ _ c.counts_sound.ensures w.if-not-counts_sound.false (stop_call _ _ _ w.entries_hold.ensures w.if-not-entries_hold.true));
+    amounts = tt;
+  }
+]
 
 -- The same where the entries hold.
 abbrev held : Else-not-entries_hold → View
@@ -85,9 +87,19 @@ tested-flows c =
     (go_call _ _ _ _ c.entries_hold.ensures c.if-not-entries_hold.false
     (c.flowing.ensures ∙ none_negative _ _ (same here (omega (arith, f.units, length-take b.unit_count b.units))) _ _ (flows c).gained (flows c).lost)))
 
-pub returns-then-not-flowing : goal.returns-then-not-flowing
-returns-then-not-flowing c =
-    record { value = sym c.if-not-flowing.true ∙ tested-flows (goal.at.returns-then-not-flowing c).After-flowing; amounts = tt }
+-- What is handed back is there if the test says so, and is then what stands beside it.
+there : {A : Type 0} (b : Bool) (x : A) → is_some (then_some b x) ≡ b
+there true x = refl
+there false x = refl
+
+held-by : {A : Type 0} (P : A → Type 0) (b : Bool) (x : A) → P x → IfSome (then_some b x) P
+held-by P true x p = p
+held-by P false x p = tt
 
 pub returns : goal.returns
-returns c = record { value = sym c.if-not-flowing.false ∙ tested-flows (goal.at.returns c).After-flowing; amounts = flows (goal.at.returns c).After-flowing }
+returns c =
+    let t = (goal.at.returns c).After-flowing in
+    record {
+      value = ap is_some c.then_some.ensures ∙ there _ _ ∙ tested-flows t;
+      amounts = rw c.then_some.ensures (held-by (Flows (units_of (take c.args.b.now.unit_count c.args.b.now.units))) c.flowing.result c.of-amounts.result (flows t));
+    }
