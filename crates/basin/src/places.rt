@@ -49,8 +49,8 @@ pub fn missing(t: Title, n: usize, m: usize) -> Answer
 }
 
 // A title's units, aquifers and use exist, and its volume is in its range. It answers a truth value, which is all that the test for 0 asks, by a
-// match of its own: by `missing` each title takes 53 instructions in place of 41 there, and the figures of a balance with 256 titles miss the bar of 1.5 times
-// the fast model.
+// match of its own: by `missing` each title takes 53 instructions in place of 41 there, and the figures of a balance with 256 titles miss the bar
+// of 1.5 times the fast model.
 pub fn title_sound(t: Title, units: usize, aquifers: usize) -> bool
     ensures { result ≡ sounds.sound_title units aquifers t }
 {

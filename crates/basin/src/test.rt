@@ -20,7 +20,7 @@ fn counts_sound(units: usize, aquifers: usize, given: usize) -> bool
 }
 
 // Every title in force is sound; every aquifer and every unit is sound, and none of its entries is exceeded by its titles. One walk over
-// the titles tests each and adds it up.
+// the titles tests each and adds it up. It returns from a loop, since in an `all` the sums would change inside the test.
 fn entries_hold(b: &Balance) -> bool
     requires { sounds.sound_counts (view_of b.now) ≡ true }
     ensures { result ≡ sounds.entries_hold (view_of b.now) }

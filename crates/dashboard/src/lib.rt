@@ -37,7 +37,7 @@ pub fn hasheqro_print(book: &[u8], out: &mut [u8; ROOM]) -> usize
 }
 
 // The table of a balance, and what refused the description or which record failed. Numbers of the size of the machine are cast: they have no
-// `From` to those of 64 bits.
+// `From` to those of 64 bits. Accepted and the ending are two, since an accepted book can end with a record that failed.
 fn table_of(accepted: bool, ending: Ending, b: Balance) -> Table
     ensures { result ≡ tables.table_of accepted (tables.failed_number ending) (tables.failed_place ending) b }
 {

@@ -124,7 +124,8 @@ pub fn answered(answer: Answer, done: Outcome) -> Outcome
     }
 }
 
-// What a call came to by its answer, where so many numbers were given before it.
+// What a call came to by its answer, where so many numbers were given before it. It stays beside `answered`, since the number is known to fit only
+// where the call was accepted.
 pub fn called(call: Call, answer: Answer, given: usize) -> Outcome
     requires { answer ≡ accepted → given ≤ title_limit }
     ensures { result ≡ outcomes.answered answer (outcomes.accepted_outcome call (call_number given call)) }
@@ -222,6 +223,7 @@ fn book_lines(s: &[u8], page: &mut Page)
 }
 
 // What is printed for a book: its bytes from the start of the buffer on, and their number, by which a caller in C knows them.
+// The buffer is lent in its size: memory is fixed, and a slice would need a clause about its room.
 pub fn print_book(s: &[u8], out: &mut [u8; ROOM]) -> usize
     ensures { Written 1064960 out.old 0 (text.printed s.now) out.new result }
 {

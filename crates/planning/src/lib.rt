@@ -29,7 +29,8 @@ pub struct Kept {
 }
 
 // The current balance, and the balances that are kept: how many, and each one with its name, in the order in which the names were first
-// kept. The count is a number of its own, since a state that comes with more than four is answered with 0.
+// kept. The count is a number of its own, since a state that comes with more than four is answered with 0, and there is no heap, so that
+// each place is there.
 #[derive(Clone, Copy)]
 pub struct State {
     pub balance: Balance,
