@@ -218,46 +218,47 @@ is_volume_lem x e =
 pub volume_is : (x : ℕ) → Volume x → Sound.is_volume x ≡ true
 volume_is x f = both_hold (ltb 0 x) (leb x term_limit) (lt-ltb 0 x f.positive) (le-leb x term_limit f.within)
 
--- One number and a volume, or two, or three.
-one_exists_lem : (l n x : ℕ) → (Sound.exists l n && Sound.is_volume x) ≡ true → Exists l n × Volume x
-one_exists_lem l n x e = let p = both (Sound.exists l n) _ e in (number_exists l n p.0, is_volume_lem x p.1)
+-- Two numbers.
+both_exist_lem : (l m a b : ℕ) → (Sound.exists l a && Sound.exists m b) ≡ true → Exists l a × Exists m b
+both_exist_lem l m a b e = let p = both (Sound.exists l a) _ e in (number_exists l a p.0, number_exists m b p.1)
 
-exists_one : (l n x : ℕ) → Exists l n × Volume x → (Sound.exists l n && Sound.is_volume x) ≡ true
-exists_one l n x f = both_hold (Sound.exists l n) _ (exists_number l n f.0) (volume_is x f.1)
-
-both_exist_lem : (l m a b x : ℕ) → (Sound.exists l a && (Sound.exists m b && Sound.is_volume x)) ≡ true → Exists l a × Exists m b × Volume x
-both_exist_lem l m a b x e =
-    let p = both (Sound.exists l a) _ e in
-    let q = one_exists_lem m b x p.1 in
-    (number_exists l a p.0, q.0, q.1)
-
-exist_both : (l m a b x : ℕ) → Exists l a × Exists m b × Volume x → (Sound.exists l a && (Sound.exists m b && Sound.is_volume x)) ≡ true
-exist_both l m a b x f = both_hold (Sound.exists l a) _ (exists_number l a f.0) (exists_one m b x (f.1, f.2))
-
-all_exist_lem : (l m n a b c x : ℕ) → (Sound.exists l a && (Sound.exists m b && (Sound.exists n c && Sound.is_volume x))) ≡ true
-    → Exists l a × Exists m b × Exists n c × Volume x
-all_exist_lem l m n a b c x e =
-    let p = both (Sound.exists l a) _ e in
-    let q = both_exist_lem m n b c x p.1 in
-    (number_exists l a p.0, q.0, q.1, q.2)
-
-exist_all : (l m n a b c x : ℕ) → Exists l a × Exists m b × Exists n c × Volume x
-    → (Sound.exists l a && (Sound.exists m b && (Sound.exists n c && Sound.is_volume x))) ≡ true
-exist_all l m n a b c x f = both_hold (Sound.exists l a) _ (exists_number l a f.0) (exist_both m n b c x (f.1, f.2, f.3))
+exist_both : (l m a b : ℕ) → Exists l a × Exists m b → (Sound.exists l a && Sound.exists m b) ≡ true
+exist_both l m a b f = both_hold (Sound.exists l a) _ (exists_number l a f.0) (exists_number m b f.1)
 
 pub title_sound_lem : (units aquifers : ℕ) (t : Title) → Sound.sound_title units aquifers t ≡ true → TitleSound units aquifers t
-title_sound_lem units aquifers (UnitWithdrawal u r v) e = both_exist_lem units 7 u r v e
-title_sound_lem units aquifers (AquiferWithdrawal a v) e = one_exists_lem aquifers a v e
-title_sound_lem units aquifers (UnitTransfer g r v) e = both_exist_lem units units g r v e
-title_sound_lem units aquifers (AquiferTransfer a u v) e = both_exist_lem aquifers units a u v e
-title_sound_lem units aquifers (ReturningWithdrawal a u r v) e = all_exist_lem aquifers units 7 a u r v e
+title_sound_lem units aquifers (UnitWithdrawal u r v) e =
+    let p = both (Sound.exists units u) _ e in
+    let q = both (Sound.exists 7 r) _ p.1 in
+    (number_exists units u p.0, number_exists 7 r q.0, is_volume_lem v q.1)
+title_sound_lem units aquifers (AquiferWithdrawal a v) e =
+    let p = both (Sound.exists aquifers a) _ e in (number_exists aquifers a p.0, is_volume_lem v p.1)
+title_sound_lem units aquifers (UnitTransfer g r v) e =
+    let p = both (Sound.exists units g && Sound.exists units r) _ e in
+    let n = both_exist_lem units units g r p.0 in
+    (n.0, n.1, is_volume_lem v p.1)
+title_sound_lem units aquifers (AquiferTransfer a u v) e =
+    let p = both (Sound.exists aquifers a && Sound.exists units u) _ e in
+    let n = both_exist_lem aquifers units a u p.0 in
+    (n.0, n.1, is_volume_lem v p.1)
+title_sound_lem units aquifers (ReturningWithdrawal a u r v) e =
+    let p = both (Sound.exists aquifers a && Sound.exists units u) _ e in
+    let n = both_exist_lem aquifers units a u p.0 in
+    let q = both (Sound.exists 7 r) _ p.1 in
+    (n.0, n.1, number_exists 7 r q.0, is_volume_lem v q.1)
 
 pub sound_title_lem : (units aquifers : ℕ) (t : Title) → TitleSound units aquifers t → Sound.sound_title units aquifers t ≡ true
-sound_title_lem units aquifers (UnitWithdrawal u r v) f = exist_both units 7 u r v f
-sound_title_lem units aquifers (AquiferWithdrawal a v) f = exists_one aquifers a v f
-sound_title_lem units aquifers (UnitTransfer g r v) f = exist_both units units g r v f
-sound_title_lem units aquifers (AquiferTransfer a u v) f = exist_both aquifers units a u v f
-sound_title_lem units aquifers (ReturningWithdrawal a u r v) f = exist_all aquifers units 7 a u r v f
+sound_title_lem units aquifers (UnitWithdrawal u r v) f =
+    both_hold (Sound.exists units u) _ (exists_number units u f.0)
+    (both_hold (Sound.exists 7 r) _ (exists_number 7 r f.1) (volume_is v f.2))
+sound_title_lem units aquifers (AquiferWithdrawal a v) f =
+    both_hold (Sound.exists aquifers a) _ (exists_number aquifers a f.0) (volume_is v f.1)
+sound_title_lem units aquifers (UnitTransfer g r v) f =
+    both_hold (Sound.exists units g && Sound.exists units r) _ (exist_both units units g r (f.0, f.1)) (volume_is v f.2)
+sound_title_lem units aquifers (AquiferTransfer a u v) f =
+    both_hold (Sound.exists aquifers a && Sound.exists units u) _ (exist_both aquifers units a u (f.0, f.1)) (volume_is v f.2)
+sound_title_lem units aquifers (ReturningWithdrawal a u r v) f =
+    both_hold (Sound.exists aquifers a && Sound.exists units u) _ (exist_both aquifers units a u (f.0, f.1))
+    (both_hold (Sound.exists 7 r) _ (exists_number 7 r f.2) (volume_is v f.3))
 
 pub place_sound : (units aquifers : ℕ) (p : Place) → Sound.sound_place units aquifers p ≡ true → PlaceSound units aquifers p
 place_sound units aquifers p e =

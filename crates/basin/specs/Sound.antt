@@ -1,6 +1,6 @@
 -- The test for 0 (document 01, "What each operation refuses"; document 02 [2]): a call gives 0 if the balance handed to it is not sound.
 -- Assumes nothing.
-use Rattle.std.specs.Prelude.{ℕ, ◌+◌, Bool, not, ◌&&◌, ◌||◌, List, [], ◌∷◌, leb, ltb, length, get_or}
+use Rattle.std.specs.Prelude.{ℕ, ◌+◌, Bool, true, not, ◌&&◌, ◌||◌, List, [], ◌∷◌, leb, ltb, length, get_or}
 use Rattle.std.specs.Int.Signed.{non_neg}
 use Rattle.laws.specs.Sum.{every}
 use Rattle.model.specs.declared.Unit.{Unit}
@@ -8,6 +8,7 @@ use Rattle.model.specs.declared.Aquifer.{Aquifer}
 use Rattle.model.specs.declared.Title.{Title}
 use Rattle.model.specs.declared.Title.TheVariants.{UnitWithdrawal, AquiferWithdrawal, UnitTransfer, AquiferTransfer, ReturningWithdrawal}
 use Rattle.model.specs.declared.Place.{Place}
+use Rattle.model.specs.Entries.{volume_of}
 use Rattle.model.specs.Fresh.{empty_unit, empty_aquifer, empty_place}
 use Rattle.model.specs.declared.Refusal.TheVariants.{NoSuchPlace, NoSuchUse}
 use Rattle.model.specs.Answers.{Answer, accepted, refuse}
@@ -48,22 +49,30 @@ exists last n = ltb 0 n && leb n last
 abbrev pub is_volume : ℕ → Bool
 is_volume x = ltb 0 x && is_term x
 
+-- A title's units and aquifers exist, of so many units and aquifers.
+abbrev pub places_exist : ℕ → ℕ → Title → Bool
+places_exist units aquifers (UnitWithdrawal u r x) = exists units u
+places_exist units aquifers (AquiferWithdrawal a x) = exists aquifers a
+places_exist units aquifers (UnitTransfer g r x) = exists units g && exists units r
+places_exist units aquifers (AquiferTransfer a u x) = exists aquifers a && exists units u
+places_exist units aquifers (ReturningWithdrawal a u r x) = exists aquifers a && exists units u
+
+-- A title's use exists, if it has one.
+abbrev pub use_exists : Title → Bool
+use_exists (UnitWithdrawal u r x) = exists 7 r
+use_exists (AquiferWithdrawal a x) = true
+use_exists (UnitTransfer g r x) = true
+use_exists (AquiferTransfer a u x) = true
+use_exists (ReturningWithdrawal a u r x) = exists 7 r
+
 -- A title's units, aquifers and use exist, and its volume is in its range.
 abbrev pub sound_title : ℕ → ℕ → Title → Bool
-sound_title units aquifers (UnitWithdrawal u r v) = exists units u && (exists 7 r && is_volume v)
-sound_title units aquifers (AquiferWithdrawal a v) = exists aquifers a && is_volume v
-sound_title units aquifers (UnitTransfer g r v) = exists units g && (exists units r && is_volume v)
-sound_title units aquifers (AquiferTransfer a u v) = exists aquifers a && (exists units u && is_volume v)
-sound_title units aquifers (ReturningWithdrawal a u r v) = exists aquifers a && (exists units u && (exists 7 r && is_volume v))
+sound_title units aquifers t = places_exist units aquifers t && (use_exists t && is_volume (volume_of t))
 
 -- A title that names a unit, an aquifer or a use that is not there, of so many units and aquifers.
 abbrev pub missing_fault : ℕ → ℕ → Title → Answer
-missing_fault units aquifers (UnitWithdrawal u r x) = refuse NoSuchPlace (not (exists units u)) (refuse NoSuchUse (not (exists 7 r)) accepted)
-missing_fault units aquifers (AquiferWithdrawal a x) = refuse NoSuchPlace (not (exists aquifers a)) accepted
-missing_fault units aquifers (UnitTransfer g r x) = refuse NoSuchPlace (not (exists units g && exists units r)) accepted
-missing_fault units aquifers (AquiferTransfer a u x) = refuse NoSuchPlace (not (exists aquifers a && exists units u)) accepted
-missing_fault units aquifers (ReturningWithdrawal a u r x) =
-    refuse NoSuchPlace (not (exists aquifers a && exists units u)) (refuse NoSuchUse (not (exists 7 r)) accepted)
+missing_fault units aquifers t =
+    refuse NoSuchPlace (not (places_exist units aquifers t)) (refuse NoSuchUse (not (use_exists t)) accepted)
 
 abbrev pub sound_place : ℕ → ℕ → Place → Bool
 sound_place units aquifers p = not p.in_force || sound_title units aquifers p.title

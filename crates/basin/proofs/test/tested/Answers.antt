@@ -1,6 +1,6 @@
 -- `basin::tested` meets its contract. Assumes nothing.
 use Prim.Native.Nat.{◌≤◌}
-use mathlib.Core.Path.{◌≡◌, refl, sym, ap, ◌∙◌}
+use mathlib.Core.Path.{◌≡◌, refl, ap, ◌∙◌}
 use native.Mathlib.Omega.{arith}
 use mathlib.Core.Bool.{Bool, false, true, ◌&&◌}
 use Rattle.std.specs.Prelude.{is_some, IfSome}
