@@ -1,2 +1,2 @@
 mod Examples
-mod Outcomes
+mod Parts

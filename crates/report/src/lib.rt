@@ -1,17 +1,61 @@
 // The lines that the program prints. Each is a value that is put on a page. A line is at most 128 bytes long, a call's line at most 64. That the
 // page has room is asked at each line and not by a type, which would hold it for one length only. A line is words and numbers: it knows no
-// figures and no refusals, so that it holds their numbers alone. The four `put` are of no trait, since nothing is generic over them.
+// figures and no refusals, so that it holds their numbers alone. The four `put` of lines are of no trait, since nothing is generic over them.
+// A further line takes a definition of its text in specs/Lines, and one call of `line` with a literal list of its parts.
 #![tactic(auto)]
 
+ghost use Rattle.std.specs.Prelude.{map, ◌++◌};
 ghost use Rattle.text.specs.Page.{Fits, Puts};
-ghost use Rattle.report.specs.Lines.{unit_line, aquifer_line, refused_line};
-ghost use Rattle.report.specs.Calls.{outcome_line, outcome_text};
+ghost use Rattle.text.specs.Text.{ascii};
+ghost use Rattle.report.specs.Lines.{line, unit_line, aquifer_line, refused_line};
+ghost use Rattle.report.specs.Parts.{part_text, part_room, line_room};
+ghost use Rattle.report.specs.Calls.{outcome_line};
 
 use text::Page;
 
 // The size of the buffer: room for 16,384 call lines, as many as a book of 65,536 bytes can have calls, and for the table. Public calls have it in
 // the type of the buffer that they are lent, which spares them a clause about room.
 pub const ROOM: usize = 1_064_960;
+
+// What stands in a line behind its first word: a word of the program's own, a whole number, or one with its sign.
+#[derive(Clone, Copy)]
+enum Part {
+    Word(&'static [u8]),
+    Number(u64),
+    Signed(i64),
+}
+
+impl Part {
+    // Puts a space and the part. Inlined, as `line` is.
+    #[inline(always)]
+    fn put(self, page: &mut Page)
+        requires { Fits (part_room self) page.old }
+        ensures { Puts (part_room self) page.old (ascii " " ++ part_text self) page.new }
+    {
+        match self {
+            Part::Word(word) => {
+                page.byte(b' ');
+                page.word(word);
+            }
+            Part::Number(number) => page.number(number),
+            Part::Signed(number) => page.signed(number),
+        }
+    }
+}
+
+// Puts a line: its first word, each part after a space, and the line feed. Inlined, so that the compiler goes over each line's literal list: where the
+// program goes over it as it runs, a call's line takes half as many instructions again.
+#[inline(always)]
+fn line(page: &mut Page, first: &[u8], parts: &[Part])
+    requires { Fits (line_room first.now parts.now) page.old }
+    ensures { Puts (line_room first.now parts.now) page.old (line first.now (map part_text parts.now)) page.new }
+{
+    page.word(first);
+    for part in parts {
+        part.put(page);
+    }
+    page.byte(b'\n');
+}
 
 // `unit N F C R A`: the unit's number, flow, committed volume, own reserve and availability.
 #[derive(Clone, Copy)]
@@ -24,17 +68,22 @@ pub struct UnitLine {
 }
 
 impl UnitLine {
+    #[tactic(auto, unfolding(crate::specs::Lines::unit_line))]
     pub fn put(self, page: &mut Page)
         requires { Fits 128 page.old }
         ensures { Puts 128 page.old (unit_line self.number self.flow self.committed self.reserve self.availability) page.new }
     {
-        page.word(b"unit");
-        page.number(self.number);
-        page.signed(self.flow);
-        page.number(self.committed);
-        page.number(self.reserve);
-        page.signed(self.availability);
-        page.byte(b'\n');
+        line(
+            page,
+            b"unit",
+            &[
+                Part::Number(self.number),
+                Part::Signed(self.flow),
+                Part::Number(self.committed),
+                Part::Number(self.reserve),
+                Part::Signed(self.availability),
+            ],
+        );
     }
 }
 
@@ -47,15 +96,20 @@ pub struct AquiferLine {
 }
 
 impl AquiferLine {
+    #[tactic(auto, unfolding(crate::specs::Lines::aquifer_line))]
     pub fn put(self, page: &mut Page)
         requires { Fits 128 page.old }
         ensures { Puts 128 page.old (aquifer_line self.number self.recharge self.availability) page.new }
     {
-        page.word(b"aquifer");
-        page.number(self.number);
-        page.signed(self.recharge);
-        page.signed(self.availability);
-        page.byte(b'\n');
+        line(
+            page,
+            b"aquifer",
+            &[
+                Part::Number(self.number),
+                Part::Signed(self.recharge),
+                Part::Signed(self.availability),
+            ],
+        );
     }
 }
 
@@ -67,15 +121,20 @@ pub struct RefusedLine {
 }
 
 impl RefusedLine {
+    #[tactic(auto, unfolding(crate::specs::Lines::refused_line))]
     pub fn put(self, page: &mut Page)
         requires { Fits 128 page.old }
         ensures { Puts 128 page.old (refused_line self.number self.place) page.new }
     {
-        page.word(b"refused");
-        page.number(self.number);
-        page.word(b" at");
-        page.number(self.place);
-        page.byte(b'\n');
+        line(
+            page,
+            b"refused",
+            &[
+                Part::Number(self.number),
+                Part::Word(b"at"),
+                Part::Number(self.place),
+            ],
+        );
     }
 }
 
@@ -89,31 +148,6 @@ pub enum Outcome {
     Back,
 }
 
-impl Outcome {
-    // Puts the word of the outcome and its number, where it has one, each after a space.
-    fn put(self, page: &mut Page)
-        requires { Fits 31 page.old }
-        ensures { Puts 31 page.old (outcome_text self) page.new }
-    {
-        match self {
-            Outcome::Given(title) => {
-                page.word(b" given");
-                page.number(title);
-            }
-            Outcome::Refused(refusal) => {
-                page.word(b" refused");
-                page.number(refusal);
-            }
-            Outcome::Cancelled(title) => {
-                page.word(b" cancelled");
-                page.number(title);
-            }
-            Outcome::Kept => page.word(b" kept"),
-            Outcome::Back => page.word(b" back"),
-        }
-    }
-}
-
 // `call K O`: the call's place among the calls, and its outcome.
 #[derive(Clone, Copy)]
 pub struct CallLine {
@@ -122,13 +156,30 @@ pub struct CallLine {
 }
 
 impl CallLine {
+    #[tactic(auto, unfolding(crate::specs::Lines::call_given, crate::specs::Lines::call_refused, crate::specs::Lines::call_cancelled, crate::specs::Lines::call_kept, crate::specs::Lines::call_back))]
     pub fn put(self, page: &mut Page)
         requires { Fits 64 page.old }
         ensures { Puts 64 page.old (outcome_line self.call self.outcome) page.new }
     {
-        page.word(b"call");
-        page.number(self.call);
-        self.outcome.put(page);
-        page.byte(b'\n');
+        let call = Part::Number(self.call);
+        match self.outcome {
+            Outcome::Given(title) => line(
+                page,
+                b"call",
+                &[call, Part::Word(b"given"), Part::Number(title)],
+            ),
+            Outcome::Refused(refusal) => line(
+                page,
+                b"call",
+                &[call, Part::Word(b"refused"), Part::Number(refusal)],
+            ),
+            Outcome::Cancelled(title) => line(
+                page,
+                b"call",
+                &[call, Part::Word(b"cancelled"), Part::Number(title)],
+            ),
+            Outcome::Kept => line(page, b"call", &[call, Part::Word(b"kept")]),
+            Outcome::Back => line(page, b"call", &[call, Part::Word(b"back")]),
+        }
     }
 }
