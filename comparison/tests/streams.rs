@@ -1,8 +1,8 @@
 //! What `balance` and `journal` cannot read or write ends them with status 1 and a line on standard error, and what comes in pieces is read
 //! whole. Both have to be built before.
 
-use std::fs;
-use std::io::Write;
+use std::fs::{self, File};
+use std::io::{self, Write};
 use std::path::{Path, PathBuf};
 use std::process::{Command, Output, Stdio};
 use std::thread;
@@ -51,6 +51,21 @@ fn a_closed_output_is_said() {
         let output = run(program, input, ">&-");
         assert_eq!(output.status.code(), Some(1));
         assert!(said(&output).contains("Bad file descriptor"));
+    }
+}
+
+#[test]
+fn a_pipe_that_nobody_reads_any_more_is_said() {
+    for (program, input) in INPUTS {
+        let (reader, writer) = io::pipe().expect("a pipe");
+        drop(reader);
+        let output = Command::new(file("target/bin").join(program))
+            .stdin(File::open(file(input)).expect("a sample"))
+            .stdout(writer)
+            .output()
+            .expect("the program runs");
+        assert_eq!(output.status.code(), Some(1));
+        assert!(said(&output).contains("Broken pipe"));
     }
 }
 

@@ -1,11 +1,12 @@
 -- What was written of a journal, and what is left to write, are all that is printed for it. Assumes nothing.
 use Prim.Native.Nat.{ℕ, ◌+◌}
-use mathlib.Core.Path.{◌≡◌, refl, sym, ap, subst, ◌∙◌}
+use mathlib.Core.Path.{◌≡◌, refl, sym, ap, ap₂, subst, ◌∙◌}
 use mathlib.Core.Bool.{Bool, true, false, cond}
 use mathlib.Core.List.{List, [], ◌++◌, append_assoc}
 use lib.ListN.{length, take}
 use native.Mathlib.Omega.{arith}
 use Rattle.std.specs.declared.option.Option.{Option}
+use Rattle.std.specs.declared.result.Result.{Result}
 use Rattle.std.specs.Io.KnownBytes.{Appends}
 use Rattle.std.proofs.KnownBytes.{Appends-nil, Appends-trans}
 use Rattle.model.specs.View.{view_of}
@@ -18,7 +19,9 @@ use Rattle.replay.specs.Page.{Page, joined, onward, page_limit, page_of, Replied
 use Rattle.replay.specs.Journal.{begun, replies_text, journal_text}
 use Rattle.transcript.proofs.Pages.{pages_join, enough_records}
 use Rattle.transcript.proofs.Whole.{whole_text}
+use Rattle.output.specs.Appending.{AppendsBeginning, Appended}
 use Rattle.output.specs.Left.{left_text}
+use Rattle.output.proofs.Beginnings.{beginning_of_more, beginning_after, appended_after}
 
 -- Records and then others are printed one after the other.
 onward_by : (t : Bool) (p q : Page) → replies_text (cond t (joined p q) p) ≡ p.text ++ cond t (replies_text q) (table_text (view_of p.state.balance))
@@ -51,13 +54,10 @@ left_so : (s : List ℕ) (k : ℕ) (p : Page) {old new : List ℕ} (r : Replayed
 left_so s k p r w = λ j. left_text s (w.next j) (k + w.count j) (w.state j) (w.more j)
 
 -- The beginning is written, and what is then left: that is all.
-pub journal_put : (s : List ℕ) {buffer out : List ℕ} (r : Replayed) (old mid now : Option (List ℕ)) → Replied (begun s) buffer out r
-    → Appends old mid (take r.length out) → Appends mid now (left_text s r.next 1 r.state r.more) → Appends old now (journal_text s)
-journal_put s r old mid now w a b =
-    let p = begun s in
-    subst (Appends old now)
-    (ap (λ (l : List ℕ). p.text ++ l) (λ j. left_text s (w.next j) 1 (w.state j) (w.more j)) ∙ begun_text s)
-    (Appends-trans old mid now p.text (left_text s r.next 1 r.state r.more) (subst (Appends old mid) (front w.text) a) b)
+pub journal_put : (s : List ℕ) {buffer out : List ℕ} (r : Replayed) → Replied (begun s) buffer out r
+    → take r.length out ++ left_text s r.next 1 r.state r.more ≡ journal_text s
+journal_put s r w =
+    ap₂ (λ (l m : List ℕ). l ++ m) (front w.text) (λ j. left_text s (w.next j) 1 (w.state j) (w.more j)) ∙ begun_text s
 
 -- What was written so far, and that with what is left it is all.
 pub record Putting (s all : List ℕ) (old now : Option (List ℕ)) (at k : ℕ) (st : State) (more : Bool) : Type 0 where
@@ -69,28 +69,37 @@ pub putting_start : (s : List ℕ) (old : Option (List ℕ)) (at k : ℕ) (st : 
     → Putting s (left_text s at k st more) old old at k st more
 putting_start s old at k st more = record { text = []; appended = Appends-nil old; whole = refl }
 
-module _ (s all : List ℕ) (at k : ℕ) (st : State) (more : Bool) (old mid now : Option (List ℕ)) (g : Putting s all old mid at k st more) where
-  -- A page more is written.
-  pub putting_on : more ≡ true → {buffer out : List ℕ} (r : Replayed) → Replied (page_of page_limit k st s at) buffer out r
-      → Appends mid now (take r.length out) → Putting s all old now r.next (k + r.count) r.state r.more
-  putting_on on r w a =
+module _ (s all : List ℕ) (at k : ℕ) (st : State) (more : Bool) (old mid : Option (List ℕ)) (g : Putting s all old mid at k st more) where
+  -- A page more, and what is then left, are what was left.
+  page_left : more ≡ true → {buffer out : List ℕ} (r : Replayed) → Replied (page_of page_limit k st s at) buffer out r
+      → g.text ++ (take r.length out ++ left_text s r.next (k + r.count) r.state r.more) ≡ all
+  page_left on r w =
       let p = page_of page_limit k st s at in
-      record {
-        text = g.text ++ p.text;
-        appended = Appends-trans old mid now g.text p.text g.appended (subst (Appends mid now) (front w.text) a);
-        whole =
-            append_assoc g.text p.text (left_text s r.next (k + r.count) r.state r.more)
-            ∙ ap (λ (l : List ℕ). g.text ++ (p.text ++ l)) (left_so s k p r w)
-            ∙ ap (λ (l : List ℕ). g.text ++ l) (page_text s at k st p refl)
-            ∙ ap (λ (t : Bool). g.text ++ left_text s at k st t) (sym on)
-            ∙ g.whole;
-      }
+      ap₂ (λ (l m : List ℕ). g.text ++ (l ++ m)) (front w.text) (left_so s k p r w)
+      ∙ ap (λ (l : List ℕ). g.text ++ l) (page_text s at k st p refl)
+      ∙ ap (λ (t : Bool). g.text ++ left_text s at k st t) (sym on)
+      ∙ g.whole
 
-  -- The table is written, and that is all.
+  module _ (now : Option (List ℕ)) (on : more ≡ true) {buffer out : List ℕ} (r : Replayed) (w : Replied (page_of page_limit k st s at) buffer out r) where
+    -- It is written.
+    pub putting_on : Appends mid now (take r.length out) → Putting s all old now r.next (k + r.count) r.state r.more
+    putting_on a =
+        record {
+          text = g.text ++ take r.length out;
+          appended = Appends-trans old mid now g.text (take r.length out) g.appended a;
+          whole = append_assoc g.text (take r.length out) _ ∙ page_left on r w;
+        }
+
+    -- A beginning of it is written.
+    pub putting_failed : AppendsBeginning mid now (take r.length out) → AppendsBeginning old now all
+    putting_failed b =
+        subst (AppendsBeginning old now) (page_left on r w)
+        (beginning_after old mid now g.text _ g.appended (beginning_of_more mid now (take r.length out) _ b))
+
+  -- The table is written, or a beginning of it, and that is all, or a beginning of all.
   pub putting_end : more ≡ false → {m n : ℕ} {buffer out : List ℕ} → Written m buffer 0 (table_text (view_of st.balance)) out n
-      → Appends mid now (take n out) → Appends old now all
-  putting_end off w a =
-      let table = table_text (view_of st.balance) in
-      subst (Appends old now)
-      (ap (λ (t : Bool). g.text ++ left_text s at k st t) (sym off) ∙ g.whole)
-      (Appends-trans old mid now g.text table g.appended (subst (Appends mid now) (front w) a))
+      → (now : Option (List ℕ)) {T E : Type 0} (result : Result T E) → Appended mid now result (take n out) → Appended old now result all
+  putting_end off w now result a =
+      subst (Appended old now result)
+      (ap (λ (l : List ℕ). g.text ++ l) (front w) ∙ ap (λ (t : Bool). g.text ++ left_text s at k st t) (sym off) ∙ g.whole)
+      (appended_after old mid now g.text _ g.appended result a)

@@ -1,10 +1,11 @@
 // Writing what is printed for a journal, page by page. The buffer is lent in its size: memory is fixed, and a slice would need a clause about its
 // room.
-ghost use Rattle.std.specs.Prelude.{◌≡◌, ◌≤◌, true, length, OnOk};
-ghost use Rattle.std.specs.Io.KnownBytes.{Appends};
+ghost use Rattle.std.specs.Prelude.{◌≡◌, ◌≤◌, true, length};
 ghost use Rattle.replay.specs.Journal.{journal_limit, journal_text};
+ghost use Rattle.output.specs.Appending.{Appended};
 ghost use Rattle.output.specs.Left.{left_text};
 
+use crate::full::write_full;
 use replay::Replayed;
 use report::ROOM;
 use std::io;
@@ -20,25 +21,25 @@ fn put_pages<W: Write>(
     out: &mut [u8; ROOM],
 ) -> io::Result<()>
     requires { begun.more ≡ true → length s.now ≤ journal_limit }
-    ensures { OnOk result (Appends (W.contents to.old) (W.contents to.new) (left_text s.now begun.next 1 begun.state begun.more)) }
+    ensures { Appended (W.contents to.old) (W.contents to.new) result (left_text s.now begun.next 1 begun.state begun.more) }
 {
     let mut page = begun;
     let mut k = 1u32;
     while page.more {
         page = replay::next_page(page.state, s, page.next, k, out);
-        to.write_all(&out[..page.length])?;
+        write_full(to, &out[..page.length])?;
         k += page.count as u32;
     }
     let length = replay::table(page.state.balance, out);
-    to.write_all(&out[..length])
+    write_full(to, &out[..length])
 }
 
 // Writes what is printed for a journal, each page as it comes, then the table, through a lent buffer. Where something cannot be written, the
-// error is returned and nothing more is written. A refused journal leaves the fresh balance, which has no table.
+// error is returned, and what was written is a beginning of it. A refused journal leaves the fresh balance, which has no table.
 pub fn put_journal<W: Write>(to: &mut W, s: &[u8], out: &mut [u8; ROOM]) -> io::Result<()>
-    ensures { OnOk result (Appends (W.contents to.old) (W.contents to.new) (journal_text s.now)) }
+    ensures { Appended (W.contents to.old) (W.contents to.new) result (journal_text s.now) }
 {
     let begun = replay::begin_journal(s, out);
-    to.write_all(&out[..begun.length])?;
+    write_full(to, &out[..begun.length])?;
     put_pages(to, s, begun, out)
 }

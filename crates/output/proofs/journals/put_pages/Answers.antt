@@ -1,8 +1,8 @@
--- A page more leaves a turn and less to write; the table is the end of it. Assumes nothing.
+-- A page more leaves a turn and less to write; the table is the end of it, and a page that fails is a beginning. Assumes nothing.
 use native.Mathlib.Omega.{arith}
-use Rattle.std.proofs.lemmas.Result.{on_ok_weaker}
-use Rattle.output.specs.Left.{left_text}
-use Rattle.output.proofs.Putting.{putting_start, putting_on, putting_end}
+use Rattle.std.proofs.Common.{rules}
+use Rattle.std.proofs.lemmas.Result.{MatchResult-from_err}
+use Rattle.output.proofs.Putting.{putting_start, putting_on, putting_failed, putting_end}
 use Rattle.output.proofs.Turns.{few, next_low, turn_on, turn_less}
 use Rattle.output.proofs.journals.put_pages.Goals as goal
 
@@ -25,17 +25,15 @@ loop-page-smaller g c = turn_less _ _ _ _ _ _ _ c.next_page-page.ensures _ c.loo
 pub loop-page-preserved : goal.loop-page-preserved
 loop-page-preserved g c =
     record {
-      put =
-          putting_on c.args.s.now (left_text c.args.s.now c.args.begun.next 1 c.args.begun.state c.args.begun.more) c.loop-page.page.next c.loop-page.k c.loop-page.page.state c.loop-page.page.more
-          (g.W.Write.contents c.args.to.now) (g.W.Write.contents c.loop-page.to) (g.W.Write.contents c.write_all.new.self)
-          c.loop-page.invariant.put c.loop-page-test.true c.next_page-page.result c.next_page-page.ensures c.in_ok-write_all.ensures.bytes;
+      put = putting_on _ _ _ _ _ _ _ _ c.loop-page.invariant.put _ c.loop-page-test.true _ c.next_page-page.ensures c.in_ok-write_full.ensures;
       turn = turn_on _ _ _ _ _ _ _ c.next_page-page.ensures _ c.loop-page-test.true c.loop-page.invariant.turn;
     }
 
+pub returns-in_err-write_full : goal.returns-in_err-write_full
+returns-in_err-write_full g c =
+    MatchResult-from_err c.from_residual.result _ _ (search rules)
+    (λ _. putting_failed _ _ _ _ _ _ _ _ c.loop-page.invariant.put _ c.loop-page-test.true _ c.next_page-page.ensures c.in_err-write_full.ensures)
+
 pub returns : goal.returns
 returns g c =
-    on_ok_weaker c.write_all-2.result
-    (putting_end c.args.s.now (left_text c.args.s.now c.args.begun.next 1 c.args.begun.state c.args.begun.more) c.loop-page.page.next c.loop-page.k c.loop-page.page.state c.loop-page.page.more
-    (g.W.Write.contents c.args.to.now) (g.W.Write.contents c.loop-page.to) (g.W.Write.contents c.write_all-2.new.self)
-    c.loop-page.invariant.put c.loop-page-test.false c.table-length.ensures)
-    c.write_all-2.ensures.bytes
+    putting_end _ _ _ _ _ _ _ _ c.loop-page.invariant.put c.loop-page-test.false c.table-length.ensures _ c.write_full-2.result c.write_full-2.ensures
