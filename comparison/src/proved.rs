@@ -52,6 +52,7 @@ mod link {
         pub fn hasheqro_rekeep(book: *const u8, length: usize, times: u64) -> u64;
         pub fn hasheqro_reback(book: *const u8, length: usize, times: u64) -> u64;
         pub fn hasheqro_reask(book: *const u8, length: usize, times: u64) -> u64;
+        pub fn hasheqro_rerecord(book: *const u8, length: usize, times: u64) -> u64;
     }
 }
 
@@ -102,4 +103,9 @@ pub fn reback(book: &[u8], times: u64) -> u64 {
 /// The same, cancelling number 0 of the current balance; how often that was refused.
 pub fn reask(book: &[u8], times: u64) -> u64 {
     unsafe { link::hasheqro_reask(book.as_ptr(), book.len(), times) }
+}
+
+/// The same, replying to a journal's record that asks for that; how many records were answered.
+pub fn rerecord(book: &[u8], times: u64) -> u64 {
+    unsafe { link::hasheqro_rerecord(book.as_ptr(), book.len(), times) }
 }

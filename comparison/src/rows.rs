@@ -511,6 +511,8 @@ pub fn planning_states() -> Vec<Planned> {
     rows.extend(of_operation("back", "going back", Operation::Back, 1000));
     let asked = "a cancellation refused at 19";
     rows.extend(of_operation("ask", asked, Operation::Ask, 10_000));
+    let recorded = "a journal's record: a cancellation refused at 19";
+    rows.extend(of_operation("record", recorded, Operation::Record, 1000));
     rows
 }
 

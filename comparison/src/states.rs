@@ -1,9 +1,12 @@
-//! Planning states: keeping, going back and asking, repeated on a state with four balances kept.
+//! Planning states: keeping, going back, asking, and replying to a record of a journal, repeated on
+//! a state with four balances kept.
 
 use crate::{plain, proved};
+use reference::journal::{self, Ledger};
 use reference::planning::{self, Name};
 use reference::record::Call;
 use reference::register::{self, Balance};
+use reference::report;
 use reference::{fast, fast::Plans};
 use std::hint::black_box;
 
@@ -18,6 +21,9 @@ const NAMES: [Name; 4] = [
 /// A cancellation of number 0, which is always refused.
 const CANCEL_NOTHING: Call = Call::Cancel { title: 0 };
 
+/// A journal's record that asks for it.
+const CANCELLING_NOTHING: &[u8] = b"CA\0\0";
+
 /// What is repeated.
 #[derive(Clone, Copy, Debug, PartialEq, Eq)]
 pub enum Operation {
@@ -27,9 +33,16 @@ pub enum Operation {
     Back,
     /// Makes a call on the current balance that is refused.
     Ask,
+    /// Reads that call from a journal's record and prints the reply.
+    Record,
 }
 
-pub const OPERATIONS: [Operation; 3] = [Operation::Keep, Operation::Back, Operation::Ask];
+pub const OPERATIONS: [Operation; 4] = [
+    Operation::Keep,
+    Operation::Back,
+    Operation::Ask,
+    Operation::Record,
+];
 
 impl Operation {
     /// The function of the proved library.
@@ -38,6 +51,7 @@ impl Operation {
             Operation::Keep => "hasheqro_rekeep",
             Operation::Back => "hasheqro_reback",
             Operation::Ask => "hasheqro_reask",
+            Operation::Record => "hasheqro_rerecord",
         }
     }
 }
@@ -47,12 +61,14 @@ fn name_in_turn(turn: u64) -> Name {
 }
 
 /// The proved library opens a book, runs its calls, keeps the balance under the four names, and
-/// repeats an operation so many times. Returns how often it was accepted; of `Ask`, refused.
+/// repeats an operation so many times. Returns how often it was accepted; of `Ask`, refused; of
+/// `Record`, answered.
 pub fn proved(operation: Operation, book: &[u8], times: u64) -> u64 {
     match operation {
         Operation::Keep => proved::rekeep(book, times),
         Operation::Back => proved::reback(book, times),
         Operation::Ask => proved::reask(book, times),
+        Operation::Record => proved::rerecord(book, times),
     }
 }
 
@@ -71,7 +87,8 @@ pub fn with_four_kept(balance: Balance) -> planning::State {
         .fold(state, |state, name| planning::keep(&state, *name).1)
 }
 
-/// Repeats an operation on a state, and returns how often it was accepted; of `Ask`, refused.
+/// Repeats an operation on a state, and returns how often it was accepted; of `Ask`, refused; of
+/// `Record`, answered.
 pub fn repeat_plain(operation: Operation, mut state: planning::State, times: u64) -> u64 {
     let mut done = 0;
     for turn in 0..times {
@@ -97,6 +114,13 @@ fn plain_once(operation: Operation, state: &mut planning::State, name: Name) -> 
             let (reply, after) = register::apply(&state.balance, &CANCEL_NOTHING);
             state.balance = after;
             matches!(reply, register::Reply::Refused(_))
+        }
+        Operation::Record => {
+            let mut ledger = Ledger::of(state.clone());
+            let text = journal::next_asked(CANCELLING_NOTHING, 0)
+                .map(|(asked, _)| journal::answer(&mut ledger, 1, &asked));
+            *state = ledger.state;
+            black_box(text).is_ok()
         }
     }
 }
@@ -134,6 +158,17 @@ fn fast_once(operation: Operation, plans: &mut Plans, name: Name) -> bool {
         Operation::Ask => {
             let reply = fast::apply(&mut plans.current, &CANCEL_NOTHING);
             matches!(reply, register::Reply::Refused(_))
+        }
+        Operation::Record => {
+            let faulty = fast::plans_faulty(plans);
+            let text = fast::next_call(CANCELLING_NOTHING, 0).map(|(call, _)| {
+                let reply = match faulty {
+                    true => fast::apply(&mut plans.current, &call),
+                    false => fast::apply_untested(&mut plans.current, &call),
+                };
+                report::call(1, &reply)
+            });
+            black_box(text).is_ok()
         }
     }
 }

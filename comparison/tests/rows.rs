@@ -89,7 +89,7 @@ fn the_returning_rows_have_such_titles_but_one() {
 #[test]
 fn the_rows_of_states_have_so_many_titles_in_force() {
     let rows = rows::planning_states();
-    assert_eq!(rows.len(), 6);
+    assert_eq!(rows.len(), 8);
     for (planned, titles) in rows.iter().zip([16, 255].into_iter().cycle()) {
         let Ok(ran) = plain::run(&(planned.make)().book) else {
             panic!("{}", planned.name);

@@ -141,7 +141,7 @@ pub struct Ledger {
 }
 
 impl Ledger {
-    fn new(state: State) -> Ledger {
+    pub fn of(state: State) -> Ledger {
         let sound = !planning::is_faulty(&state);
         Ledger { state, sound }
     }
@@ -181,7 +181,7 @@ pub fn open(journal: &[u8]) -> Result<(Ledger, usize), Refusal> {
         balance: opened.balance,
         kept: Vec::new(),
     };
-    Ok((Ledger::new(state), opened.end))
+    Ok((Ledger::of(state), opened.end))
 }
 
 /// What the record at an offset after the description asks, and the offset after it.

@@ -1,5 +1,5 @@
 -- The state of a book in which four balances are kept, and how many of many calls on it are counted. Assumes nothing.
-use Rattle.std.specs.Prelude.{◌≡◌, ℕ, zero, suc, ◌+◌, ◌-◌, ◌%◌, ◌^◌, ◌<◌, ◌≤◌, List, set, replicate, Ok, Err}
+use Rattle.std.specs.Prelude.{◌≡◌, ℕ, zero, suc, ◌+◌, ◌-◌, ◌%◌, ◌^◌, ◌<◌, ◌≤◌, List, [], ◌∷◌, set, replicate, Ok, Err}
 use Rattle.std.specs.Borrow.{MutBor}
 use Rattle.model.specs.Answers.{Answer}
 use Rattle.model.specs.declared.Call.TheVariants.{Cancel}
@@ -9,6 +9,7 @@ use Rattle.planning.specs.declared.Name.{Name}
 use Rattle.planning.specs.declared.State.{State}
 use Rattle.planning.specs.Names.{name_length}
 use Rattle.planning.specs.Calls.{with_current, keep_reply, back_reply, opened_state}
+use Rattle.replay.specs.Page.{record_reply}
 
 -- The names in turn: 1, 2, 3 and 4 in the first byte, and 0 in the others.
 abbrev pub name_in_turn : ℕ → Name
@@ -45,6 +46,14 @@ ask_turn s i =
       next = with_current s (call_reply s.balance (Cancel 0)).balance;
       counts = 1 - accepted (call_reply s.balance (Cancel 0)).answer;
     }
+
+-- A journal of one record, `CA` with number 0.
+abbrev pub cancel_nothing : List ℕ
+cancel_nothing = 67 ∷ 65 ∷ 0 ∷ 0 ∷ []
+
+-- The reply to that record, counted as one record is answered.
+abbrev pub record_turn : State → ℕ → Turn
+record_turn s i = record { next = (record_reply 1 s cancel_nothing 0).state; counts = (record_reply 1 s cancel_nothing 0).count }
 
 -- Wherever a call may return, what it leaves and what it counts are as `turn` says, and it counts at most 1.
 pub record ComesTo (post : MutBor State → ℕ → ℕ → MutBor State → Type 0) (turn : State → ℕ → Turn) : Type 0 where

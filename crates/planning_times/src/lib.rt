@@ -10,6 +10,7 @@ ghost use Rattle.planning_times.specs.Timed as timed;
 
 use model::{Answer, Call};
 use planning::{Name, State};
+use report::ROOM;
 
 // The name that is in turn: 1, 2, 3 or 4 in its first byte, and 0 in the others. The cast is proved to fit: `try_from` would add a branch that
 // never runs.
@@ -70,6 +71,19 @@ fn ask_in_turn(s: &mut State, i: u64) -> u64
     1 - accepted(r.answer)
 }
 
+// A journal's record: a cancellation of number 0.
+const CANCEL_NOTHING: [u8; 4] = *b"CA\0\0";
+
+// Replies to the record, the first of its journal, and counts 1 as one record is answered.
+fn record_once(s: &mut State, out: &mut [u8; ROOM]) -> u64
+    ensures next { s.new ≡ (timed.record_turn s.old 0).next }
+    ensures counts { result ≡ (timed.record_turn s.old 0).counts }
+{
+    let r = replay::next_record(*s, &CANCEL_NOTHING, 0, 1, out);
+    *s = r.state;
+    r.count as u64
+}
+
 // So many calls, each in its turn on the state that the one before left: how many of them are counted. The ghost value says what a call
 // comes to.
 fn in_turn<F: Fn(&mut State, u64) -> u64>(s: &mut State, times: u64, call: F) -> u64
@@ -114,4 +128,17 @@ pub fn hasheqro_reask(book: &[u8], times: u64) -> u64
     ensures { result ≡ timed.counted timed.ask_turn times 0 (timed.filled book.now) }
 {
     in_turn(&mut filled(book), times, ask_in_turn)
+}
+
+// How many of so many records, each a cancellation of number 0, are answered. It is a loop of its own, since each reply is put into one buffer.
+pub fn hasheqro_rerecord(book: &[u8], times: u64) -> u64
+    ensures { result ≡ timed.counted timed.record_turn times 0 (timed.filled book.now) }
+{
+    let mut out = [0; ROOM];
+    let mut s = filled(book);
+    let mut counts = 0;
+    for _ in 0..times {
+        counts += record_once(&mut s, &mut out);
+    }
+    counts
 }

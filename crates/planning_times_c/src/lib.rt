@@ -28,3 +28,11 @@ pub extern "C" fn hasheqro_reask(book: &[u8], times: u64) -> u64
 {
     planning_times::hasheqro_reask(book, times)
 }
+
+// How many of so many records, each a cancellation of number 0, are answered.
+#[unsafe(no_mangle)]
+pub extern "C" fn hasheqro_rerecord(book: &[u8], times: u64) -> u64
+    ensures { result ≡ timed.counted timed.record_turn times 0 (timed.filled book.now) }
+{
+    planning_times::hasheqro_rerecord(book, times)
+}
