@@ -1,4 +1,4 @@
--- Every journal whose opening is accepted is followed to its end: journals and demand 3 joined. Assumes nothing.
+-- Every journal whose opening is accepted is followed to its end: journals and the conservation of water joined. Assumes nothing.
 use Rattle.std.specs.Prelude.{Ok}
 use Prim.Native.Nat.{ℕ, zero, suc, ◌+◌, ◌≤◌}
 use mathlib.Core.Path.{◌≡◌, refl, sym, ap, subst⁻¹, ◌∙◌}

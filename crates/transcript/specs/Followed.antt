@@ -53,8 +53,8 @@ abbrev pub failure_in : List ℕ → List ℕ
 failure_in s = failure_from (length s + 1) s (journal_opened s).place
 
 -- A description was read, and the records begin where it ends. After all of them the state is the one that what was asked describes, it is
--- sound, and demand 3 holds of its current balance and of each that is kept. The replies are, line by line, those of what is to be told of
--- each request, and then the line of a record that failed. Printed are the replies and the table of the balance after the list of calls.
+-- sound, and water is conserved in its current balance and in each that is kept. The replies are, line by line, those of what is to be told
+-- of each request, and then the line of a record that failed. Printed are the replies and the table of the balance after the list of calls.
 pub record Followed (s : List ℕ) : Type 0 where
   pub description : Description
   pub place : ℕ
