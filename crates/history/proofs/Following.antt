@@ -33,8 +33,9 @@ use Rattle.planning.specs.State.{empty_kept, no_kept, name_at as held_at, balanc
 use Rattle.planning.specs.Calls.{place_in, kept_under}
 use Rattle.planning.proofs.Naming.{same_self, same_sym, same_through}
 use Rattle.planning.proofs.Replying.{stands, keep_again, keep_fifth, keep_new, back_none, back_to}
-use Rattle.history.specs.Asked.{Request, ask, keep, back, Asked, name_at, among, asking, telling}
-use Rattle.history.specs.Claim.{state_after, told, kept_as, described}
+use Rattle.requests.specs.Requests.{Request, ask, keep, back, state_after}
+use Rattle.history.specs.Asked.{Asked, name_at, among, asking, telling}
+use Rattle.history.specs.Claim.{told, kept_as, described}
 use Rattle.history.proofs.Kept.{Sought, found, absent, sought, Well, name_before, name_last, one_longer, replacing, adding, kept_again, kept_new, kept_fifth, back_found, back_absent, well_replacing, well_adding}
 
 -- What a reply of keeping or going back says.

@@ -15,7 +15,8 @@ use Rattle.river.proofs.Firsts.{at_first, nothing_passed}
 use Rattle.planning.specs.declared.Name.{Name}
 use Rattle.planning.specs.Names.{place_limit, same_name, place_of}
 use Rattle.planning.proofs.Naming.{same_sym, same_through}
-use Rattle.history.specs.Asked.{keep, back, Asked, nothing_asked, name_at, among, unless_refused, asking}
+use Rattle.requests.specs.Requests.{keep, back}
+use Rattle.history.specs.Asked.{Asked, nothing_asked, name_at, among, unless_refused, asking}
 
 -- A name is found in a list, or it is at no place of it.
 pub data Sought (ms : List Name) (n : Name) : Type 0 where

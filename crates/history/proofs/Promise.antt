@@ -15,8 +15,9 @@ use Rattle.planning.specs.declared.State.{State}
 use Rattle.planning.specs.Names.{place_limit}
 use Rattle.planning.specs.State.{empty_kept, nothing_kept, sound_state}
 use Rattle.planning.specs.Calls.{opened_state}
-use Rattle.history.specs.Asked.{Request, Asked, nothing_asked, name_at, asking, history, telling, tellings}
-use Rattle.history.specs.Claim.{states_after, all_told, kept_as, described, Conserved}
+use Rattle.requests.specs.Requests.{Request, states_after}
+use Rattle.history.specs.Asked.{Asked, nothing_asked, name_at, asking, history, telling, tellings}
+use Rattle.history.specs.Claim.{all_told, kept_as, described, Conserved}
 use Rattle.history.proofs.Kept.{Well, well_start}
 use Rattle.history.proofs.Following.{held_balance, sound_described, step}
 

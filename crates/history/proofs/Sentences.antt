@@ -18,7 +18,8 @@ use Rattle.conservation.specs.Replies.{Said, number_for, saying}
 use Rattle.planning.specs.declared.Name.{Name}
 use Rattle.planning.specs.Names.{same_name}
 use Rattle.planning.proofs.Naming.{same_self, same_sym}
-use Rattle.history.specs.Asked.{Request, ask, keep, back, Asked, among, keep_refused, back_refused, kept_under, returned, unless_refused, asking, history, tellings, calls, leaves}
+use Rattle.requests.specs.Requests.{Request, ask, keep, back}
+use Rattle.history.specs.Asked.{Asked, among, keep_refused, back_refused, kept_under, returned, unless_refused, asking, history, tellings, calls, leaves}
 
 -- A list of calls is kept under a name.
 pub record Held (a : Asked) (n : Name) (l : List Call) : Type 0 where

@@ -9,12 +9,7 @@ use Rattle.conservation.specs.Demand3.{start, tally_refusal, tallied}
 use Rattle.conservation.specs.Replies.{Said, number_for, saying}
 use Rattle.planning.specs.declared.Name.{Name}
 use Rattle.planning.specs.Names.{place_limit, same_name}
-
--- A request: an ordinary call, keeping under a name, or going back to a name.
-pub data Request : Type 0 where
-  ask : Call → Request
-  keep : Name → Request
-  back : Name → Request
+use Rattle.requests.specs.Requests.{Request, ask, keep, back}
 
 -- What was asked so far comes to: the list of calls, refused ones included; the names under which something is kept, in the order in which
 -- they were first kept; and under each name the list of calls at its last keeping.

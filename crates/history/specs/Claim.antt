@@ -11,19 +11,9 @@ use Rattle.planning.specs.declared.Kept.{Kept}
 use Rattle.planning.specs.declared.State.{State}
 use Rattle.planning.specs.Names.{place_limit}
 use Rattle.planning.specs.State.{empty_kept, balance_at}
-use Rattle.planning.specs.Calls.{with_current, keep_reply, back_reply}
-use Rattle.history.specs.Asked.{Request, ask, keep, back, Asked, name_at}
-
--- The program's state after a request. An ordinary call takes the current balance alone, and the balance that it returns is the current one.
-abbrev pub state_after : State → Request → State
-state_after s (ask c) = with_current s (call_reply s.balance c).balance
-state_after s (keep n) = (keep_reply s n).state
-state_after s (back n) = (back_reply s n).state
-
--- The program's state after a list of requests, each on the state that the one before returned.
-unfoldable pub states_after : State → List Request → State
-states_after s [] = s
-states_after s (r ∷ rs) = states_after (state_after s r) rs
+use Rattle.planning.specs.Calls.{keep_reply, back_reply}
+use Rattle.requests.specs.Requests.{Request, ask, keep, back, state_after}
+use Rattle.history.specs.Asked.{Asked, name_at}
 
 -- What the program tells of a request: the answer and the number of its reply.
 abbrev pub told : State → Request → Said

@@ -2,3 +2,4 @@
 pub mod Pages
 pub mod Whole
 pub mod Cutting
+pub mod Followed

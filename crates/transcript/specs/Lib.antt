@@ -1,2 +1,3 @@
--- Journals with no record of their own.
+-- Journals with no record of their own, and journals followed to their end.
 pub mod Plain
+pub mod Followed

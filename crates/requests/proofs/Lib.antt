@@ -1,0 +1,2 @@
+-- The proofs of what a request does to the state.
+pub mod States
