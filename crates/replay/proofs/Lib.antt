@@ -3,3 +3,5 @@ pub mod Records
 pub mod Replaying
 pub mod Steps
 pub mod Ending
+pub mod Said
+pub mod Printed
