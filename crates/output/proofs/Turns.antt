@@ -12,7 +12,7 @@ use Rattle.replay.specs.Page.{page_limit, page_of, Replied}
 use Rattle.replay.specs.Journal.{journal_limit}
 use Rattle.transcript.proofs.Pages.{GoesOn, page_onward}
 
--- Before a page: a journal that goes on is not too long, each record before it took four bytes, and its first place is small.
+-- Before a page: a journal that goes on is not too long, each record before it took at least four bytes, and its first place is small.
 pub record Turn (s : List ℕ) (at k : ℕ) (more : Bool) : Type 0 where
   pub short : more ≡ true → length s ≤ journal_limit
   pub place : 4 * k ≤ at + 4

@@ -1,4 +1,5 @@
--- The state of a book in which four balances are kept, and how many of many calls on it are counted. Assumes nothing.
+-- The state of a book in which four balances are kept, and how many of many calls on it are counted: all of them, since that state is sound and
+-- has the four names. Assumes nothing.
 use Rattle.std.specs.Prelude.{◌≡◌, ℕ, zero, suc, ◌+◌, ◌-◌, ◌%◌, ◌^◌, ◌<◌, ◌≤◌, List, [], ◌∷◌, set, replicate, Ok, Err}
 use Rattle.std.specs.Borrow.{MutBor}
 use Rattle.model.specs.Answers.{Answer}

@@ -1,6 +1,5 @@
-// For timing: keeping, going back and an ordinary call, many times over, on the state of a book in which four balances are kept. The crate
-// `planning_times_c` exports these functions to C. They are three steps of one loop. The first two differ in the function that
-// they call: one function over both would take it as a closure, with clauses as long as what it spares.
+// For timing: keeping, going back, an ordinary call and a journal's record, many times over, on the state of a book in which four balances are
+// kept. The crate `planning_times_c` exports these functions to C.
 #![tactic(auto)]
 
 ghost use Rattle.std.specs.Prelude.{◌≡◌, ℕ};

@@ -1,5 +1,5 @@
--- What an accepted journal prints: the reply to its first record, numbered 1, the replies to the others, numbered from 2 on, and then the table of
--- the state after them all. Assumes nothing.
+-- What an accepted opening prints where a request stands at its place: the line of that request at place 1, what the records after it print, from
+-- place 2 on, and then the table of the state after them all. Assumes nothing.
 use Rattle.std.specs.Prelude.{Ok}
 use Prim.Native.Nat.{ℕ, suc, ◌+◌}
 use mathlib.Core.Path.{◌≡◌, ap, ◌∙◌}

@@ -27,10 +27,13 @@ unknown (Err r) = eqb (number r) (number UnknownMark)
 abbrev pub ends_there : List ℕ → Answer → ℕ → Bool
 ends_there s a place = unknown a && is_own (own_at s place)
 
+-- The book of a journal: the journal itself, or what stands before the mark of a journal alone that ends its description.
+abbrev pub book_of : List ℕ → List ℕ
+book_of s = cond (ends_there s (opened_state s).answer (opened_state s).place) (take (opened_state s).place s) s
+
 -- Opening: the description is read and refused as that of a book, and a mark of a journal alone ends it as a call mark does.
 abbrev pub journal_opened : List ℕ → Opened
-journal_opened s =
-    cond (ends_there s (opened_state s).answer (opened_state s).place) (opened_state (take (opened_state s).place s)) (opened_state s)
+journal_opened s = opened_state (book_of s)
 
 -- 21 a journal over 1,048,576 bytes.
 abbrev pub journal_limit : ℕ

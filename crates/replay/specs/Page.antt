@@ -19,11 +19,17 @@ abbrev pub back_text : ℕ → Answer → List ℕ
 back_text k (Ok u) = call_back k
 back_text k (Err r) = call_refused k (number r)
 
+-- The line of a request at place k, by the answer and the number of its reply.
+abbrev pub request_line : ℕ → Request → Answer → ℕ → List ℕ
+request_line k (ask c) answer number = call_text k c answer number
+request_line k (keep n) answer number = kept_text k answer
+request_line k (back n) answer number = back_text k answer
+
 -- The text of the reply to a request at place k, on a state.
 abbrev pub reply_text : ℕ → State → Request → List ℕ
-reply_text k st (ask c) = call_text k c (call_reply st.balance c).answer (call_reply st.balance c).number
-reply_text k st (keep n) = kept_text k (keep_reply st n).answer
-reply_text k st (back n) = back_text k (back_reply st n).answer
+reply_text k st (ask c) = request_line k (ask c) (call_reply st.balance c).answer (call_reply st.balance c).number
+reply_text k st (keep n) = request_line k (keep n) (keep_reply st n).answer (keep_reply st n).number
+reply_text k st (back n) = request_line k (back n) (back_reply st n).answer (back_reply st n).number
 
 -- What some records give: the text of their replies, the state after them, the offset of the next, how many there were, and whether there
 -- may be more.

@@ -31,7 +31,7 @@ pub fn open_journal(s: &[u8]) -> Opened
     ensures { result ≡ journals.journal_opened s.now }
 {
     let o = planning::open_book(s);
-    if ends_there(s, o.answer, o.place) && o.place <= s.len() {
+    if ends_there(s, o.answer, o.place) {
         return planning::open_book(&s[..o.place]);
     }
     o

@@ -2,7 +2,7 @@
 use mathlib.Core.Path.{◌≡◌, refl}
 use lib.IntN.{pos, negsuc}
 use Rattle.text.specs.Text.{ascii, decimal_below, decimal, signed}
-use Rattle.report.specs.Lines.{unit_line, aquifer_line, refused_line, call_given, call_refused, call_cancelled}
+use Rattle.report.specs.Lines.{unit_line, aquifer_line, refused_line, call_given, call_refused, call_cancelled, call_kept, call_back}
 
 unit_3 : unit_line 3 (pos 8760) 1000 934 (pos 7760) ≡ ascii "unit 3 8760 1000 934 7760\n"
 unfolding unit_line signed decimal decimal_below
@@ -31,6 +31,14 @@ call_1 = refl
 call_2 : call_refused 2 17 ≡ ascii "call 2 refused 17\n"
 unfolding call_refused decimal decimal_below
 call_2 = refl
+
+call_3 : call_kept 3 ≡ ascii "call 3 kept\n"
+unfolding call_kept decimal decimal_below
+call_3 = refl
+
+call_4 : call_back 4 ≡ ascii "call 4 back\n"
+unfolding call_back decimal decimal_below
+call_4 = refl
 
 call_10 : call_cancelled 10 2 ≡ ascii "call 10 cancelled 2\n"
 unfolding call_cancelled decimal decimal_below

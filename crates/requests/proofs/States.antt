@@ -1,5 +1,5 @@
--- What a request does to the state: what ordinary calls leave, what a keeping puts under its name, what going back brings, and that a refused
--- request hands back the very state. Assumes nothing.
+-- What a request does to the state: what ordinary calls leave, what a keeping puts under its name, and what going back brings. Assumes
+-- nothing.
 use Rattle.std.specs.Prelude.{Option, Some, None, Ok, Err}
 use Prim.Native.Nat.{ℕ, ◌+◌, ◌<◌}
 use mathlib.Core.Path.{◌≡◌, refl, sym, ap, subst⁻¹, ◌∙◌}
@@ -16,8 +16,7 @@ use Rattle.model.specs.declared.Balance.{Balance}
 use Rattle.model.specs.declared.Call.{Call}
 use Rattle.model.specs.Answers.{Answer}
 use Rattle.river.proofs.Firsts.{at_first, first_at}
-use Rattle.register.specs.Calls.{call_reply, after}
-use Rattle.register.proofs.Keeping.{refused_keeps}
+use Rattle.register.specs.Calls.{after}
 use Rattle.planning.specs.declared.Name.{Name}
 use Rattle.planning.specs.declared.Kept.{Kept}
 use Rattle.planning.specs.declared.State.{State}
@@ -27,7 +26,6 @@ use Rattle.planning.specs.State.{Sized, name_at, no_kept, sound_state}
 use Rattle.planning.specs.Calls.{place_in, with_current, keep_reply, back_reply}
 use Rattle.planning.proofs.Naming.{same_self, same_sym, same_through}
 use Rattle.planning.proofs.Replying.{standing, keep_faulty, keep_again, keep_fifth, keep_new, back_faulty, back_none, back_to, place_within}
-use Rattle.planning.proofs.Promises.{keep_refused_lem, back_refused_lem, keep_stays}
 use Rattle.requests.specs.Requests.{ask, keep, back, state_after, states_after}
 use Rattle.requests.specs.Under.{Under}
 
@@ -38,15 +36,11 @@ unfolding states_after after
 calls_alone s [] = refl
 calls_alone s (c ∷ cs) = calls_alone (state_after s (ask c)) cs
 
--- A keeping and a return that are not accepted, by the refusal.
+-- No answer is both accepted and refused.
 not_both : {X : Type 0} (k : Refusal) (a : Answer) → a ≡ Err k → a ≡ Ok tt → X
 not_both k a e p = let q : Err k ≡ Ok tt = sym e ∙ p in let z : ◌≡◌ {A = ℕ} 0 1 = cc in absurd (omega arith)
 
 module _ (s : State) (n : Name) where
-  -- Keeping leaves the current balance.
-  pub keeping_leaves_the_current : (state_after s (keep n)).balance ≡ s.balance
-  keeping_leaves_the_current = (keep_stays s n).0
-
   -- What holds of the state after a keeping, by the test and by the place of the name.
   kept_by : (P : State → Type 0) → P s
       → ((e : sound_state s ≡ true) (k : ℕ) (p : place_in s n ≡ Some k) → P (keep_reply s n).state)
@@ -151,13 +145,3 @@ module _ (s : State) (n m : Name) (b : Balance) (apart : same_name m n ≡ false
           let y = name_at s.kept u.place in
           let found : same_name y n ≡ true = ap (λ (j : ℕ). same_name (name_at s.kept j) n) q ∙ e in
           true≢false (sym (same_through m y n (same_sym y m u.named) found) ∙ apart)
-
--- A refused request hands back the very state.
-pub refused_call : (s : State) (c : Call) (k : Refusal) → (call_reply s.balance c).answer ≡ Err k → state_after s (ask c) ≡ s
-refused_call s c k e = ap (with_current s) (refused_keeps s.balance c k e).0
-
-pub refused_keeping : (s : State) (n : Name) (k : Refusal) → (keep_reply s n).answer ≡ Err k → state_after s (keep n) ≡ s
-refused_keeping s n k e = keep_refused_lem s n k e
-
-pub refused_return : (s : State) (n : Name) (k : Refusal) → (back_reply s n).answer ≡ Err k → state_after s (back n) ≡ s
-refused_return s n k e = back_refused_lem s n k e

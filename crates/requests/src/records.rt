@@ -41,7 +41,7 @@ pub fn name_at(s: &[u8], at: usize) -> Name
 // How many bytes a keeping and a return have: a mark and a name.
 const SIZE: usize = 2 + Name::BYTES;
 
-// A record that is no call of the register, for which alone it is refused: a keeping, a return, or that refusal.
+// What no call of a book is: a keeping, a return, or a record refused as the calls of a book say.
 fn own_record(s: &[u8], at: usize, refusal: Refusal) -> RecordAt
     ensures { result ≡ records.own_record s.now at refusal }
 {

@@ -411,5 +411,5 @@ own_ends_as_call s e a b rest c =
     let P = (opened_state s).place in
     let h : reading s ≡ refused UnknownMark P = unknown_refused (reading s) (both (unknown (opened_state s).answer) (is_own (own_at s P)) e).0 in
     let l : P ≤ length s = by_lt (length s) P (λ g. absurd (past_end s (opened_state s).answer P g e)) (λ g. g) in
-    ap (λ (t : Bool). cond t (opened_state (take P s)) (opened_state s)) e
+    ap (λ (t : Bool). opened_state (cond t (take P s) s)) e
     ∙ ap state_of (cut_alike s (take P s) (take P s ++ a ∷ b ∷ rest) P h (cut_alone s P l) (cut_called s P l a b rest c))

@@ -2,9 +2,9 @@
 use Rattle.std.specs.Prelude.{Ok}
 use Prim.Native.Nat.{ℕ, zero, suc, ◌+◌, ◌≤◌}
 use mathlib.Core.Path.{◌≡◌, refl, sym, ap, subst⁻¹, ◌∙◌}
-use mathlib.Core.Bool.{Bool, true, false, cond}
+use mathlib.Core.Bool.{true}
 use mathlib.Core.List.{List, ◌++◌, append_assoc}
-use lib.ListN.{length, take}
+use lib.ListN.{length}
 use borrow.Author.Tests.{le-ltb}
 use Rattle.model.specs.declared.Balance.{Balance}
 use Rattle.model.specs.Answers.{Answer}
@@ -13,21 +13,20 @@ use Rattle.book.specs.Reading.{Description, read, reading, opened, balance_of}
 use Rattle.book.proofs.Promises.{accepted_exactly}
 use Rattle.conservation.specs.Replies.{Said}
 use Rattle.planning.specs.declared.State.{State}
-use Rattle.planning.specs.declared.Opened.{Opened}
 use Rattle.planning.specs.State.{sound_state}
 use Rattle.planning.specs.Calls.{opened_state}
 use Rattle.requests.specs.Requests.{Request, ask, keep, back, state_after, states_after, Asking, ends, fails, asks, request_at, requests_from}
 use Rattle.history.specs.Claim.{told, all_told, described, Conserved}
 use Rattle.history.proofs.Promise.{state_follows, replies_follow, demand_3_kept, state_sound}
 use Rattle.listing.specs.Listing.{table_text}
-use Rattle.replay.specs.Page.{Page, reply_text, page_of}
-use Rattle.replay.specs.Journal.{ends_there, journal_opened, journal_limit, replies_text, opened_text, journal_text}
+use Rattle.replay.specs.Page.{Page, request_line, reply_text, page_of}
+use Rattle.replay.specs.Journal.{book_of, journal_opened, journal_limit, replies_text, opened_text, journal_text}
 use Rattle.replay.proofs.Replaying.{page_ends, page_fails, page_asks, page_none}
-use Rattle.transcript.specs.Followed.{book_of, requests_in, asked_in, replies_in, told_line, told_lines, failure_from, failure_in, Followed}
+use Rattle.transcript.specs.Followed.{requests_in, asked_in, replies_in, told_lines, failure_from, failure_in, Followed}
 use Rattle.transcript.proofs.Pages.{page_state}
 
 -- The text of a reply is the line by what the program tells.
-line_told : (k : ℕ) (st : State) (r : Request) → reply_text k st r ≡ told_line k r (told st r)
+line_told : (k : ℕ) (st : State) (r : Request) → reply_text k st r ≡ request_line k r (told st r).answer (told st r).number
 line_told k st (ask c) = refl
 line_told k st (keep n) = refl
 line_told k st (back n) = refl
@@ -48,7 +47,7 @@ module _ (m k : ℕ) (st : State) (s : List ℕ) (at : ℕ)
       let lines = told_lines (suc k) (requests_from m s to) (all_told after (requests_from m s to)) in
       ap (λ (p : Page). p.text) (page_asks m k st s at r to e)
       ∙ rw (e, requests_from, failure_from)
-      ((λ i. line_told k st r i ++ rest (suc k) after to i) ∙ sym (append_assoc (told_line k r (told st r)) lines (failure_from m s to)))
+      ((λ i. line_told k st r i ++ rest (suc k) after to i) ∙ sym (append_assoc (request_line k r (told st r).answer (told st r).number) lines (failure_from m s to)))
 
 -- The text of a page is the lines of its requests by what the program tells, and then the line of a record that failed.
 pub page_text : (m k : ℕ) (st : State) (s : List ℕ) (at : ℕ) → (page_of m k st s at).text ≡ lines_from m k st s at
@@ -56,18 +55,10 @@ unfolding requests_from failure_from all_told told_lines
 page_text zero k st s at = ap (λ (p : Page). p.text) (page_none k st s at)
 page_text (suc m) k st s at = text_one m k st s at (λ k st to. page_text m k st s to) (request_at s at) refl
 
--- A journal is opened as its book is.
-opened_either : (t : Bool) (a b : List ℕ) → cond t (opened_state a) (opened_state b) ≡ opened_state (cond t a b)
-opened_either true a b = refl
-opened_either false a b = refl
-
-pub opened_as_book : (s : List ℕ) → journal_opened s ≡ opened_state (book_of s)
-opened_as_book s = opened_either (ends_there s (opened_state s).answer (opened_state s).place) (take (opened_state s).place s) s
-
-module _ (s : List ℕ) (e : (journal_opened s).answer ≡ Ok tt) where
+module _ (s : List ℕ) (h : length s ≤ journal_limit) (e : (journal_opened s).answer ≡ Ok tt) where
   -- What is printed is the replies and the table of the balance after them.
-  printed_after : length s ≤ journal_limit → journal_text s ≡ replies_text (replies_in s)
-  printed_after h =
+  printed_after : journal_text s ≡ replies_text (replies_in s)
+  printed_after =
       rw (le-ltb journal_limit (length s) h)
       (ap (λ (x : Answer). opened_text s x (journal_opened s).place (journal_opened s).state) e)
 
@@ -79,7 +70,6 @@ module _ (s : List ℕ) (e : (journal_opened s).answer ≡ Ok tt) where
     state_reached : (replies_in s).state ≡ states_after (opened_state (book_of s)).state (requests_in s)
     state_reached =
         page_state (length s + 1) 1 (journal_opened s).state s (journal_opened s).place
-        ∙ ap (λ (o : Opened). states_after o.state (requests_in s)) (opened_as_book s)
 
     state_described : (replies_in s).state ≡ described (balance_of d) (asked_in s)
     state_described =
@@ -91,21 +81,16 @@ module _ (s : List ℕ) (e : (journal_opened s).answer ≡ Ok tt) where
           description = d;
           place = at;
           reads = r;
-          begins = ap (λ (o : Opened). o.place) (opened_as_book s) ∙ (accepted_exactly (book_of s)).place d at r;
+          begins = (accepted_exactly (book_of s)).place d at r;
           state = state_described;
           sound = subst⁻¹ (λ (x : State). sound_state x ≡ true) state_reached (state_sound (book_of s) d at r (requests_in s));
           conserved = subst⁻¹ (Conserved d (asked_in s)) state_reached (demand_3_kept (book_of s) d at r (requests_in s));
           replies =
               page_text (length s + 1) 1 (journal_opened s).state s (journal_opened s).place
-              ∙ ap (λ (l : List Said). told_lines 1 (requests_in s) l ++ failure_in s)
-              (ap (λ (o : Opened). all_told o.state (requests_in s)) (opened_as_book s) ∙ replies_follow (book_of s) d at r (requests_in s));
-          printed = λ h.
-              printed_after h ∙ ap (λ (x : State). (replies_in s).text ++ table_text (view_of x.balance)) state_described;
+              ∙ ap (λ (l : List Said). told_lines 1 (requests_in s) l ++ failure_in s) (replies_follow (book_of s) d at r (requests_in s));
+          printed = printed_after ∙ ap (λ (x : State). (replies_in s).text ++ table_text (view_of x.balance)) state_described;
         }
 
--- Every journal whose opening is accepted is followed to its end.
-pub journal_followed : (s : List ℕ) → (journal_opened s).answer ≡ Ok tt → Followed s
-journal_followed s e =
-    let a : (opened (book_of s)).answer ≡ Ok tt = sym (ap (λ (o : Opened). o.answer) (opened_as_book s)) ∙ e in
-    let r = (accepted_exactly (book_of s)).accepted.0 a in
-    followed s e r.0 r.1 r.2
+-- What holds of every journal that is not too long and whose opening is accepted.
+pub journal_followed : (s : List ℕ) → length s ≤ journal_limit → (journal_opened s).answer ≡ Ok tt → Followed s
+journal_followed s h e = let r = (accepted_exactly (book_of s)).accepted.0 e in followed s h e r.0 r.1 r.2

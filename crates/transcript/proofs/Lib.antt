@@ -1,4 +1,5 @@
--- The theorems of journals: their pages, their whole text, where their description ends, and those that print as a book does.
+-- The theorems of journals: their pages, their whole text, where their description ends, what stands after their records, and those that print
+-- as a book does.
 pub mod Pages
 pub mod Whole
 pub mod Cutting

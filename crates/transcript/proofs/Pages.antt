@@ -1,5 +1,5 @@
--- What a journal promises: how far its pages go, that they join, that its records never run out, the state after them, and that it prints
--- what a book prints where it has no record of its own. Assumes nothing.
+-- What a journal promises: how far its pages go, that they join, that the allowance of records never runs out, the state after them, and that it
+-- prints what a book prints where it has no record of its own. Assumes nothing.
 use Rattle.std.specs.Prelude.{Ok, Err, Option, Some, None}
 use Prim.Native.Nat.{ℕ, zero, suc, ◌+◌, ◌-◌, ◌*◌, ◌≤◌, ◌<◌}
 use mathlib.Core.Path.{◌≡◌, refl, sym, ap, ap₂, subst, ◌∙◌}
@@ -267,7 +267,7 @@ prints_as_balance s h p =
     let long : ltb journal_limit (length s) ≡ false = le-ltb journal_limit (length s) (omega arith) in
     let short : ltb 65536 (length s) ≡ false = le-ltb 65536 (length s) h in
     let o : journal_opened s ≡ opened_state s
-    = ap (λ (t : Bool). cond t (opened_state (take (opened_state s).place s)) (opened_state s)) p.description in
+    = ap (λ (t : Bool). opened_state (cond t (take (opened_state s).place s) s)) p.description in
     ap (λ (t : Bool). cond t (refused_line 21 journal_limit) (opened_text s (journal_opened s).answer (journal_opened s).place (journal_opened s).state)) long
     ∙ ap (λ (x : Opened). opened_text s x.answer x.place x.state) o
     ∙ text_as_book s (opened s).answer (opened s).place (opened s).balance p.records

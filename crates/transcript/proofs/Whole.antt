@@ -2,9 +2,8 @@
 use Rattle.std.specs.Prelude.{Ok, Err}
 use Prim.Native.Nat.{ℕ, ◌+◌}
 use mathlib.Core.Path.{◌≡◌, refl, sym, ap, ◌∙◌}
-use mathlib.Core.Bool.{Bool, true, false, cond}
 use mathlib.Core.List.{List, [], ◌++◌, append-nil}
-use lib.ListN.{length, take}
+use lib.ListN.{length}
 use borrow.Author.Tests.{lt-ltb, le-ltb}
 use Rattle.laws.proofs.Cases.{by_bool, by_lt}
 use Rattle.model.specs.declared.Refusal.{Refusal}
@@ -17,22 +16,15 @@ use Rattle.basin.specs.Sound.{sound}
 use Rattle.book.proofs.Promises.{accepted_exactly}
 use Rattle.planning.specs.declared.State.{State}
 use Rattle.planning.specs.State.{nothing_kept}
-use Rattle.planning.specs.Calls.{opened_state}
 use Rattle.report.specs.Lines.{refused_line}
 use Rattle.listing.specs.Listing.{lines_of, table_text}
 use Rattle.replay.specs.Page.{Page, onward, page_of}
-use Rattle.replay.specs.Journal.{ends_there, journal_opened, journal_limit, begun_by, begun, replies_text, opened_text, journal_text}
+use Rattle.replay.specs.Journal.{book_of, journal_opened, journal_limit, begun_by, begun, replies_text, opened_text, journal_text}
 
 -- The fresh balance has no table.
 fresh_table : table_text (view_of fresh_balance) ≡ []
 unfolding lines_of
 fresh_table = by_bool (sound (view_of fresh_balance)) (λ e. rw e refl) (λ e. rw e refl)
-
--- A refused opening leaves the fresh balance.
-journal_fresh : (s : List ℕ) (t : Bool) (n : Refusal) → (cond t (opened_state (take (opened_state s).place s)) (opened_state s)).answer ≡ Err n
-    → (cond t (opened_state (take (opened_state s).place s)) (opened_state s)).state.balance ≡ fresh_balance
-journal_fresh s true n e = (accepted_exactly (take (opened_state s).place s)).fresh n e
-journal_fresh s false n e = (accepted_exactly s).fresh n e
 
 -- How a journal goes on from its beginning.
 abbrev pub whole : List ℕ → Page → Page
@@ -52,5 +44,4 @@ whole_text s =
     (λ h. rw (lt-ltb journal_limit (length s) h) (whole_by s (Err TooLong) journal_limit (nothing_kept fresh_balance) (λ n e. refl)))
     (λ h.
     rw (le-ltb journal_limit (length s) h)
-    (whole_by s (journal_opened s).answer (journal_opened s).place (journal_opened s).state
-    (journal_fresh s (ends_there s (opened_state s).answer (opened_state s).place))))
+    (whole_by s (journal_opened s).answer (journal_opened s).place (journal_opened s).state (accepted_exactly (book_of s)).fresh))

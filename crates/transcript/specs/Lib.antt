@@ -1,3 +1,3 @@
--- Journals with no record of their own, and journals followed to their end.
+-- Journals with no record of their own, and what stands after all records of a journal.
 pub mod Plain
 pub mod Followed

@@ -1,2 +1,2 @@
-// The whole text of a journal: definitions and theorems alone.
+// What a journal prints, and what stands after its records: definitions and theorems alone.
 #![tactic(auto)]
