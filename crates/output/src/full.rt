@@ -4,8 +4,8 @@ ghost use Rattle.output.specs.Appending.{Appended};
 use std::io;
 use std::io::{ErrorKind, Write};
 
-// Writes all of the bytes, or a beginning of them where a write fails. The loop is by hand: `write_all` doesn't say what came before an error.
-// As there, a write that takes nothing is an error, and a write that a signal interrupts is tried again. The tries are counted so that it ends.
+// Writes all of the bytes, or a beginning of them where a write fails: `write_all` doesn't say what came before an error. As there, a write that
+// takes nothing is an error, and an interrupted one is tried again, as often as is counted here so that the loop ends.
 pub(crate) fn write_full<W: Write>(to: &mut W, bytes: &[u8]) -> io::Result<()>
     ensures { Appended (W.contents to.old) (W.contents to.new) result bytes.now }
 {

@@ -1,7 +1,5 @@
-// The lines that the program prints. Each is a value that is put on a page. A line is at most 128 bytes long, a call's line at most 64. That the
-// page has room is asked at each line and not by a type, which would hold it for one length only. A line is words and numbers: it knows no
-// figures and no refusals, so that it holds their numbers alone. The four `put` of lines are of no trait, since nothing is generic over them.
-// A further line takes a definition of its text in specs/Lines, and one call of `line` with a literal list of its parts.
+// The lines that the program prints: words and whole numbers, of at most 128 bytes, a call's line of at most 64. That the page has room is asked at
+// each line and not by a type, which would hold it for one length only.
 #![tactic(auto)]
 
 ghost use Rattle.std.specs.Prelude.{map, ◌++◌};
@@ -43,8 +41,8 @@ impl Part {
     }
 }
 
-// Puts a line: its first word, each part after a space, and the line feed. Inlined, so that the compiler goes over each line's literal list: where the
-// program goes over it as it runs, a call's line takes half as many instructions again.
+// Puts a line: its first word, each part after a space, and the line feed. Inlined, so that the compiler goes over each line's literal list: else a
+// call's line takes half as many instructions again.
 #[inline(always)]
 fn line(page: &mut Page, first: &[u8], parts: &[Part])
     requires { Fits (line_room first.now parts.now) page.old }
@@ -57,7 +55,8 @@ fn line(page: &mut Page, first: &[u8], parts: &[Part])
     page.byte(b'\n');
 }
 
-// `unit N F C R A`: the unit's number, flow, committed volume, own reserve and availability.
+// `unit N F C R A`: the unit's number, flow, committed volume, own reserve and availability. The `put` of lines are of no trait, since nothing is
+// generic over them.
 #[derive(Clone, Copy)]
 pub struct UnitLine {
     pub number: u64,
