@@ -3,3 +3,5 @@ pub mod Pages
 pub mod Whole
 pub mod Cutting
 pub mod Followed
+pub mod Alike
+pub mod Appending
