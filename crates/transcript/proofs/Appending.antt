@@ -96,3 +96,186 @@ module _ (s t : List ℕ) where
   -- What is asked at an offset stays asked whatever bytes are appended.
   pub request_appended : (at : ℕ) (r : Request) (to : ℕ) → request_at s at ≡ asks r to → request_at (s ++ t) at ≡ asks r to
   request_appended at r to q = asked_appended at r to (call_at s at) refl (sym (asked_by s at (call_at s at) refl) ∙ q)
+
+-- A request is at least 4 bytes long and ends within the journal.
+goes : (s : List ℕ) (at : ℕ) (r : Request) (to : ℕ) (x : RecordAt) → Onward s at x → asking x s at ≡ asks r to → (at + 4 ≤ to) × (to ≤ length s)
+goes s at r to End o q = cc
+goes s at r to (Fails n) o q = cc
+goes s at r to (Calls c p) o q = let e : p ≡ to = cc in (omega (arith, o.0), omega (arith, o.1))
+goes s at r to (Keeps p) o q = let e : p ≡ to = cc in (omega (arith, o.0), omega (arith, o.1))
+goes s at r to (Returns p) o q = let e : p ≡ to = cc in (omega (arith, o.0), omega (arith, o.1))
+
+pub request_goes : (s : List ℕ) (at : ℕ) (r : Request) (to : ℕ) → request_at s at ≡ asks r to → (at + 4 ≤ to) × (to ≤ length s)
+request_goes s at r to q = goes s at r to (record_at s at) (record-onward s at) q
+
+-- By what is asked at an offset.
+pub by_asking : {X : Type 0} (s : List ℕ) (at : ℕ) → (request_at s at ≡ ends → X) → ((n : Refusal) → request_at s at ≡ fails n → X)
+    → ((r : Request) (to : ℕ) → request_at s at ≡ asks r to → X) → X
+by_asking {X} s at none bad good = go (request_at s at) refl
+  where
+    go : (x : Asking) → request_at s at ≡ x → X
+    go ends e = none e
+    go (fails n) e = bad n e
+    go (asks r to) e = good r to e
+
+-- One record more of the requests, and of where they end.
+module _ (f : ℕ) (s : List ℕ) (at : ℕ) where
+  from_none : request_at s at ≡ ends → requests_from (suc f) s at ≡ []
+  unfolding requests_from
+  from_none e = rw (e, requests_from)
+
+  from_failing : (n : Refusal) → request_at s at ≡ fails n → requests_from (suc f) s at ≡ []
+  unfolding requests_from
+  from_failing n e = rw (e, requests_from)
+
+  from_asked : (r : Request) (to : ℕ) → request_at s at ≡ asks r to → requests_from (suc f) s at ≡ r ∷ requests_from f s to
+  unfolding requests_from
+  from_asked r to e = rw (e, requests_from)
+
+  end_none : request_at s at ≡ ends → end_from (suc f) s at ≡ at
+  unfolding end_from
+  end_none e = rw (e, end_from)
+
+  end_failing : (n : Refusal) → request_at s at ≡ fails n → end_from (suc f) s at ≡ at
+  unfolding end_from
+  end_failing n e = rw (e, end_from)
+
+  end_asked : (r : Request) (to : ℕ) → request_at s at ≡ asks r to → end_from (suc f) s at ≡ end_from f s to
+  unfolding end_from
+  end_asked r to e = rw (e, end_from)
+
+from_zero : (s : List ℕ) (at : ℕ) → requests_from 0 s at ≡ []
+unfolding requests_from
+from_zero s at = refl
+
+end_zero : (s : List ℕ) (at : ℕ) → end_from 0 s at ≡ at
+unfolding end_from
+end_zero s at = refl
+
+-- Two allowances above the number of bytes that are left give the same requests.
+pub same_requests : (f g : ℕ) (s : List ℕ) (at : ℕ) → length s - at < f → length s - at < g → requests_from f s at ≡ requests_from g s at
+same_requests zero g s at h i = absurd (omega arith)
+same_requests (suc f) zero s at h i = absurd (omega arith)
+same_requests (suc f) (suc g) s at h i =
+    by_asking s at
+    (λ e. from_none f s at e ∙ sym (from_none g s at e))
+    (λ n e. from_failing f s at n e ∙ sym (from_failing g s at n e))
+    (λ r to e.
+    let o = request_goes s at r to e in
+    from_asked f s at r to e
+    ∙ ap (λ (l : List Request). r ∷ l) (same_requests f g s to (omega (arith, o.0, o.1)) (omega (arith, o.0, o.1)))
+    ∙ sym (from_asked g s at r to e))
+
+-- Two allowances above the number of bytes that are left give the same page.
+pub same_pages : (f g k : ℕ) (st : State) (s : List ℕ) (at : ℕ) → length s - at < f → length s - at < g → page_of f k st s at ≡ page_of g k st s at
+same_pages zero g k st s at h i = absurd (omega arith)
+same_pages (suc f) zero k st s at h i = absurd (omega arith)
+same_pages (suc f) (suc g) k st s at h i =
+    by_asking s at
+    (λ e. page_ends f k st s at e ∙ sym (page_ends g k st s at e))
+    (λ n e. page_fails f k st s at n e ∙ sym (page_fails g k st s at n e))
+    (λ r to e.
+    let o = request_goes s at r to e in
+    page_asks f k st s at r to e
+    ∙ ap (joined (reply_to (asks r to) k st at))
+    (same_pages f g (suc k) (state_after st r) s to (omega (arith, o.0, o.1)) (omega (arith, o.0, o.1)))
+    ∙ sym (page_asks g k st s at r to e))
+
+-- A page, and then the records from another offset on, at the places after it and on the state that it left.
+abbrev follows : ℕ → ℕ → List ℕ → ℕ → Page → Page
+follows g k s at p = joined p (page_of g (k + p.count) p.state s at)
+
+-- No records and then a page are the page.
+none_joined : (g k : ℕ) (st : State) (s : List ℕ) (at next : ℕ) (more : Bool)
+    → page_of g k st s at ≡ follows g k s at (record { text = []; state = st; next = next; count = 0; more = more })
+none_joined g k st s at next more =
+    let q = page_of g k st s at in
+    let none : Page = record { text = []; state = st; next = next; count = 0; more = more } in
+    let c : q.count ≡ 0 + q.count = omega arith in
+    let first : k ≡ k + 0 = omega arith in
+    (λ j. record { text = q.text; state = q.state; next = q.next; count = c j; more = q.more })
+    ∙ ap (λ (x : ℕ). joined none (page_of g x st s at)) first
+
+-- Three pages one after the other, taken together either way.
+joined_assoc : (a p q : Page) → joined a (joined p q) ≡ joined (joined a p) q
+joined_assoc a p q =
+    let c : a.count + (p.count + q.count) ≡ a.count + p.count + q.count = omega arith in
+    λ j. record { text = sym (append_assoc a.text p.text q.text) j; state = q.state; next = q.next; count = c j; more = q.more }
+
+module _ (s t : List ℕ) where
+  -- The requests of the first come first, and those from its end on follow.
+  requests_join : (m f g at : ℕ) → at ≤ length s → end_from m s at ≡ length s → length (s ++ t) - at < f → length (s ++ t) - length s < g
+      → requests_from f (s ++ t) at ≡ requests_from m s at ++ requests_from g (s ++ t) (length s)
+  requests_join zero f g at l w h i =
+      let a : at ≡ length s = sym (end_zero s at) ∙ w in
+      ap (requests_from f (s ++ t)) a
+      ∙ same_requests f g (s ++ t) (length s) (omega arith) i
+      ∙ ap (λ (x : List Request). x ++ requests_from g (s ++ t) (length s)) (sym (from_zero s at))
+  requests_join (suc m) zero g at l w h i = absurd (omega arith)
+  requests_join (suc m) (suc f) g at l w h i =
+      by_asking s at
+      (λ e.
+      let a : at ≡ length s = sym (end_none m s at e) ∙ w in
+      ap (requests_from (suc f) (s ++ t)) a
+      ∙ same_requests (suc f) g (s ++ t) (length s) (omega arith) i
+      ∙ ap (λ (x : List Request). x ++ requests_from g (s ++ t) (length s)) (sym (from_none m s at e)))
+      (λ n e.
+      let a : at ≡ length s = sym (end_failing m s at n e) ∙ w in
+      ap (requests_from (suc f) (s ++ t)) a
+      ∙ same_requests (suc f) g (s ++ t) (length s) (omega arith) i
+      ∙ ap (λ (x : List Request). x ++ requests_from g (s ++ t) (length s)) (sym (from_failing m s at n e)))
+      (λ r to e.
+      let o = request_goes s at r to e in
+      from_asked f (s ++ t) at r to (request_appended s t at r to e)
+      ∙ ap (λ (x : List Request). r ∷ x)
+      (requests_join m f g to o.1 (sym (end_asked m s at r to e) ∙ w) (omega (arith, o.0, o.1, within s t)) i)
+      ∙ ap (λ (x : List Request). x ++ requests_from g (s ++ t) (length s)) (sym (from_asked m s at r to e)))
+
+  -- What a journal of whole records asked stays asked, in order and none lost, and what is appended follows.
+  pub requests_appended : (at : ℕ) → at ≤ length s → Whole s at
+      → requests_of (s ++ t) at ≡ requests_of s at ++ requests_of (s ++ t) (length s)
+  requests_appended at l w =
+      requests_join (length s + 1) (length (s ++ t) + 1) (length (s ++ t) + 1) at l w (omega arith) (omega arith)
+
+  -- Where no record of the first is left, its replies are none, and those from its end on follow.
+  page_left : (f g k : ℕ) (st : State) (at : ℕ) (more : Bool) → at ≡ length s → length (s ++ t) - at < f → length (s ++ t) - length s < g
+      → page_of f k st (s ++ t) at ≡ follows g k (s ++ t) (length s) (record { text = []; state = st; next = at; count = 0; more = more })
+  page_left f g k st at more a h i =
+      ap (page_of f k st (s ++ t)) a
+      ∙ same_pages f g k st (s ++ t) (length s) (omega arith) i
+      ∙ none_joined g k st (s ++ t) (length s) at more
+
+  -- The replies of the first come first, and those from its end on follow.
+  page_join : (m f g k : ℕ) (st : State) (at : ℕ) → at ≤ length s → end_from m s at ≡ length s → length (s ++ t) - at < f
+      → length (s ++ t) - length s < g → page_of f k st (s ++ t) at ≡ follows g k (s ++ t) (length s) (page_of m k st s at)
+  page_join zero f g k st at l w h i =
+      page_left f g k st at true (sym (end_zero s at) ∙ w) h i
+      ∙ ap (follows g k (s ++ t) (length s)) (sym (page_none k st s at))
+  page_join (suc m) zero g k st at l w h i = absurd (omega arith)
+  page_join (suc m) (suc f) g k st at l w h i =
+      by_asking s at
+      (λ e.
+      page_left (suc f) g k st at false (sym (end_none m s at e) ∙ w) h i
+      ∙ ap (follows g k (s ++ t) (length s)) (sym (page_ends m k st s at e)))
+      (λ n e.
+      let a : at ≡ length s = sym (end_failing m s at n e) ∙ w in
+      let none : ends ≡ fails n = sym (asks_nothing s at (omega arith)) ∙ e in
+      cc)
+      (λ r to e.
+      let o = request_goes s at r to e in
+      let line = reply_to (asks r to) k st at in
+      let p = page_of m (suc k) (state_after st r) s to in
+      let place : suc k + p.count ≡ k + (1 + p.count) = omega arith in
+      page_asks f k st (s ++ t) at r to (request_appended s t at r to e)
+      ∙ ap (joined line)
+      (page_join m f g (suc k) (state_after st r) to o.1 (sym (end_asked m s at r to e) ∙ w) (omega (arith, o.0, o.1, within s t)) i)
+      ∙ joined_assoc line p (page_of g (suc k + p.count) p.state (s ++ t) (length s))
+      ∙ ap (λ (x : ℕ). joined (joined line p) (page_of g x p.state (s ++ t) (length s))) place
+      ∙ ap (follows g k (s ++ t) (length s)) (sym (page_asks m k st s at r to e)))
+
+  -- What a journal of whole records replied stays replied, and the replies to what is appended follow, on the state that it left.
+  pub replies_appended : (k : ℕ) (st : State) (at : ℕ) → at ≤ length s → Whole s at
+      → page_of (length (s ++ t) + 1) k st (s ++ t) at
+      ≡ joined (page_of (length s + 1) k st s at) (going_on k (page_of (length s + 1) k st s at) (s ++ t) (length s))
+  replies_appended k st at l w =
+      page_join (length s + 1) (length (s ++ t) + 1) (length (s ++ t) + 1) k st at l w (omega arith) (omega arith)
