@@ -5,3 +5,4 @@ pub mod Cutting
 pub mod Followed
 pub mod Alike
 pub mod Appending
+pub mod Opening
