@@ -28,7 +28,8 @@ use Rattle.requests.specs.Requests.{Request, ask, keep, back, state_after, Askin
 use Rattle.replay.specs.Page.{Page, reply_to, joined, page_of}
 use Rattle.replay.proofs.Records.{Onward, onward as record-onward}
 use Rattle.replay.proofs.Replaying.{page_ends, page_fails, page_asks, page_none}
-use Rattle.transcript.specs.Appended.{end_from, Whole, going_on}
+use Rattle.transcript.specs.Followed.{failure_from}
+use Rattle.transcript.specs.Appended.{end_from, end_of, Whole, going_on}
 use Rattle.transcript.proofs.Alike.{call_end, same_call, same_failed}
 
 -- What is asked, by the call of a book that stands at an offset, and by the mark of a journal alone.
@@ -203,39 +204,34 @@ joined_assoc a p q =
     λ j. record { text = sym (append_assoc a.text p.text q.text) j; state = q.state; next = q.next; count = c j; more = q.more }
 
 module _ (s t : List ℕ) where
-  -- The requests of the first come first, and those from its end on follow.
-  requests_join : (m f g at : ℕ) → at ≤ length s → end_from m s at ≡ length s → length (s ++ t) - at < f → length (s ++ t) - length s < g
-      → requests_from f (s ++ t) at ≡ requests_from m s at ++ requests_from g (s ++ t) (length s)
-  requests_join zero f g at l w h i =
-      let a : at ≡ length s = sym (end_zero s at) ∙ w in
-      ap (requests_from f (s ++ t)) a
-      ∙ same_requests f g (s ++ t) (length s) (omega arith) i
-      ∙ ap (λ (x : List Request). x ++ requests_from g (s ++ t) (length s)) (sym (from_zero s at))
-  requests_join (suc m) zero g at l w h i = absurd (omega arith)
-  requests_join (suc m) (suc f) g at l w h i =
+  -- The requests of the first come first, and those from where they end on follow.
+  requests_join : (m f g at : ℕ) → length (s ++ t) - at < f → length (s ++ t) - at < g
+      → requests_from f (s ++ t) at ≡ requests_from m s at ++ requests_from g (s ++ t) (end_from m s at)
+  requests_join zero f g at h i =
+      same_requests f g (s ++ t) at h i
+      ∙ sym (ap₂ (λ (x : List Request) (y : ℕ). x ++ requests_from g (s ++ t) y) (from_zero s at) (end_zero s at))
+  requests_join (suc m) zero g at h i = absurd (omega arith)
+  requests_join (suc m) (suc f) g at h i =
       by_asking s at
       (λ e.
-      let a : at ≡ length s = sym (end_none m s at e) ∙ w in
-      ap (requests_from (suc f) (s ++ t)) a
-      ∙ same_requests (suc f) g (s ++ t) (length s) (omega arith) i
-      ∙ ap (λ (x : List Request). x ++ requests_from g (s ++ t) (length s)) (sym (from_none m s at e)))
+      same_requests (suc f) g (s ++ t) at h i
+      ∙ sym (ap₂ (λ (x : List Request) (y : ℕ). x ++ requests_from g (s ++ t) y) (from_none m s at e) (end_none m s at e)))
       (λ n e.
-      let a : at ≡ length s = sym (end_failing m s at n e) ∙ w in
-      ap (requests_from (suc f) (s ++ t)) a
-      ∙ same_requests (suc f) g (s ++ t) (length s) (omega arith) i
-      ∙ ap (λ (x : List Request). x ++ requests_from g (s ++ t) (length s)) (sym (from_failing m s at n e)))
+      same_requests (suc f) g (s ++ t) at h i
+      ∙ sym (ap₂ (λ (x : List Request) (y : ℕ). x ++ requests_from g (s ++ t) y) (from_failing m s at n e) (end_failing m s at n e)))
       (λ r to e.
       let o = request_goes s at r to e in
       from_asked f (s ++ t) at r to (request_appended s t at r to e)
-      ∙ ap (λ (x : List Request). r ∷ x)
-      (requests_join m f g to o.1 (sym (end_asked m s at r to e) ∙ w) (omega (arith, o.0, o.1, within s t)) i)
-      ∙ ap (λ (x : List Request). x ++ requests_from g (s ++ t) (length s)) (sym (from_asked m s at r to e)))
+      ∙ ap (λ (x : List Request). r ∷ x) (requests_join m f g to (omega (arith, o.0, o.1, within s t)) (omega (arith, o.0, o.1, within s t)))
+      ∙ sym (ap₂ (λ (x : List Request) (y : ℕ). x ++ requests_from g (s ++ t) y) (from_asked m s at r to e) (end_asked m s at r to e)))
 
-  -- What a journal of whole records asked stays asked, in order and none lost, and what is appended follows.
-  pub requests_appended : (at : ℕ) → at ≤ length s → Whole s at
-      → requests_of (s ++ t) at ≡ requests_of s at ++ requests_of (s ++ t) (length s)
-  requests_appended at l w =
-      requests_join (length s + 1) (length (s ++ t) + 1) (length (s ++ t) + 1) at l w (omega arith) (omega arith)
+  -- What a journal asked stays asked, in order and none lost, and what stands from there on follows.
+  pub requests_stay : (at : ℕ) → requests_of (s ++ t) at ≡ requests_of s at ++ requests_of (s ++ t) (end_of s at)
+  requests_stay at = requests_join (length s + 1) (length (s ++ t) + 1) (length (s ++ t) + 1) at (omega arith) (omega arith)
+
+  -- Where its records are whole, what is appended follows.
+  pub requests_appended : (at : ℕ) → Whole s at → requests_of (s ++ t) at ≡ requests_of s at ++ requests_of (s ++ t) (length s)
+  requests_appended at w = requests_stay at ∙ ap (λ (x : ℕ). requests_of s at ++ requests_of (s ++ t) x) w
 
   -- Where no record of the first is left, its replies are none, and those from its end on follow.
   page_left : (f g k : ℕ) (st : State) (at : ℕ) (more : Bool) → at ≡ length s → length (s ++ t) - at < f → length (s ++ t) - length s < g
@@ -279,3 +275,31 @@ module _ (s t : List ℕ) where
       ≡ joined (page_of (length s + 1) k st s at) (going_on k (page_of (length s + 1) k st s at) (s ++ t) (length s))
   replies_appended k st at l w =
       page_join (length s + 1) (length (s ++ t) + 1) (length (s ++ t) + 1) k st at l w (omega arith) (omega arith)
+
+-- The replies of a page end where its records end.
+pub page_next : (m k : ℕ) (st : State) (s : List ℕ) (at : ℕ) → (page_of m k st s at).next ≡ end_from m s at
+page_next zero k st s at = ap (λ (p : Page). p.next) (page_none k st s at) ∙ sym (end_zero s at)
+page_next (suc m) k st s at =
+    by_asking s at
+    (λ e. ap (λ (p : Page). p.next) (page_ends m k st s at e) ∙ sym (end_none m s at e))
+    (λ n e. ap (λ (p : Page). p.next) (page_fails m k st s at n e) ∙ sym (end_failing m s at n e))
+    (λ r to e.
+    ap (λ (p : Page). p.next) (page_asks m k st s at r to e)
+    ∙ page_next m (suc k) (state_after st r) s to
+    ∙ sym (end_asked m s at r to e))
+
+-- Where only whole records stand no record fails.
+none_fails : (m : ℕ) (s : List ℕ) (at : ℕ) → at ≤ length s → end_from m s at ≡ length s → failure_from m s at ≡ []
+unfolding failure_from
+none_fails zero s at l w = refl
+none_fails (suc m) s at l w =
+    by_asking s at
+    (λ e. rw (e, failure_from) refl)
+    (λ n e.
+    let a : at ≡ length s = sym (end_failing m s at n e) ∙ w in
+    let none : ends ≡ fails n = sym (asks_nothing s at (omega arith)) ∙ e in
+    cc)
+    (λ r to e. rw (e, failure_from) (none_fails m s to (request_goes s at r to e).1 (sym (end_asked m s at r to e) ∙ w)))
+
+pub whole_unfailing : (s : List ℕ) (at : ℕ) → at ≤ length s → Whole s at → failure_from (length s + 1) s at ≡ []
+whole_unfailing s at l w = none_fails (length s + 1) s at l w

@@ -6,3 +6,4 @@ pub mod Followed
 pub mod Alike
 pub mod Appending
 pub mod Opening
+pub mod Appended
