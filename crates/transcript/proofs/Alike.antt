@@ -160,7 +160,7 @@ module _ (s : List ℕ) (at : ℕ) where
   call_end h = rw (eq-eqb (length s - at) 0 (omega arith))
 
   -- A lone last byte is 1.
-  call_lone : length s ≡ at + 1 → call_at s at ≡ failed Short
+  pub call_lone : length s ≡ at + 1 → call_at s at ≡ failed Short
   unfolding call_at
   call_lone h = rw (ne_eqb (length s - at) 0 (λ e. omega arith), eq-eqb (length s - at) 1 (omega arith))
 

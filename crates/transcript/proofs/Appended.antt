@@ -15,8 +15,9 @@ use Rattle.listing.specs.Listing.{table_text}
 use Rattle.replay.specs.Page.{Page, joined}
 use Rattle.replay.specs.Journal.{journal_opened, journal_limit, all_replies, replies_text, opened_text, journal_text}
 use Rattle.transcript.specs.Followed.{requests_in, replies_in}
-use Rattle.transcript.specs.Appended.{Whole, appended_replies, Appended}
+use Rattle.transcript.specs.Appended.{end_of, Whole, appended_replies, Appended}
 use Rattle.transcript.proofs.Appending.{requests_appended, replies_appended, request_goes}
+use Rattle.transcript.proofs.Moved.{requests_alone, whole_appended}
 use Rattle.transcript.proofs.Opening.{opening_appended}
 
 -- A journal that is accepted prints its replies and the table after them.
@@ -39,10 +40,15 @@ module _ (s t : List ℕ) (e : (journal_opened s).answer ≡ Ok tt) (h : (journa
   journal_appended =
       record {
         opening = opening;
-        requests = ap (λ (o : Opened). requests_of (s ++ t) o.place) opening ∙ requests_appended s t (journal_opened s).place w;
+        requests =
+            ap (λ (o : Opened). requests_of (s ++ t) o.place) opening
+            ∙ requests_appended s t (journal_opened s).place w
+            ∙ ap (λ (l : List Request). requests_in s ++ l) (requests_alone s t);
         replies = replies;
         printed = λ l.
             prints (s ++ t) (ap (λ (o : Opened). o.answer) opening ∙ e) l
             ∙ ap replies_text replies
             ∙ append_assoc (replies_in s).text (appended_replies s t).text (table_text (view_of (appended_replies s t).state.balance));
+        whole = λ v.
+            ap (λ (o : Opened). end_of (s ++ t) o.place) opening ∙ whole_appended s t (journal_opened s).place w v;
       }

@@ -33,7 +33,7 @@ use Rattle.transcript.specs.Appended.{end_from, end_of, Whole, going_on}
 use Rattle.transcript.proofs.Alike.{call_end, same_call, same_failed}
 
 -- What is asked, by the call of a book that stands at an offset, and by the mark of a journal alone.
-asked_by : (s : List ℕ) (at : ℕ) (x : CallAt) → call_at s at ≡ x → request_at s at ≡ asking (besides x s at) s at
+pub asked_by : (s : List ℕ) (at : ℕ) (x : CallAt) → call_at s at ≡ x → request_at s at ≡ asking (besides x s at) s at
 unfolding record_at
 asked_by s at x e = ap (λ (y : CallAt). asking (besides y s at) s at) e
 
@@ -121,35 +121,35 @@ by_asking {X} s at none bad good = go (request_at s at) refl
 
 -- One record more of the requests, and of where they end.
 module _ (f : ℕ) (s : List ℕ) (at : ℕ) where
-  from_none : request_at s at ≡ ends → requests_from (suc f) s at ≡ []
+  pub from_none : request_at s at ≡ ends → requests_from (suc f) s at ≡ []
   unfolding requests_from
   from_none e = rw (e, requests_from)
 
-  from_failing : (n : Refusal) → request_at s at ≡ fails n → requests_from (suc f) s at ≡ []
+  pub from_failing : (n : Refusal) → request_at s at ≡ fails n → requests_from (suc f) s at ≡ []
   unfolding requests_from
   from_failing n e = rw (e, requests_from)
 
-  from_asked : (r : Request) (to : ℕ) → request_at s at ≡ asks r to → requests_from (suc f) s at ≡ r ∷ requests_from f s to
+  pub from_asked : (r : Request) (to : ℕ) → request_at s at ≡ asks r to → requests_from (suc f) s at ≡ r ∷ requests_from f s to
   unfolding requests_from
   from_asked r to e = rw (e, requests_from)
 
-  end_none : request_at s at ≡ ends → end_from (suc f) s at ≡ at
+  pub end_none : request_at s at ≡ ends → end_from (suc f) s at ≡ at
   unfolding end_from
   end_none e = rw (e, end_from)
 
-  end_failing : (n : Refusal) → request_at s at ≡ fails n → end_from (suc f) s at ≡ at
+  pub end_failing : (n : Refusal) → request_at s at ≡ fails n → end_from (suc f) s at ≡ at
   unfolding end_from
   end_failing n e = rw (e, end_from)
 
-  end_asked : (r : Request) (to : ℕ) → request_at s at ≡ asks r to → end_from (suc f) s at ≡ end_from f s to
+  pub end_asked : (r : Request) (to : ℕ) → request_at s at ≡ asks r to → end_from (suc f) s at ≡ end_from f s to
   unfolding end_from
   end_asked r to e = rw (e, end_from)
 
-from_zero : (s : List ℕ) (at : ℕ) → requests_from 0 s at ≡ []
+pub from_zero : (s : List ℕ) (at : ℕ) → requests_from 0 s at ≡ []
 unfolding requests_from
 from_zero s at = refl
 
-end_zero : (s : List ℕ) (at : ℕ) → end_from 0 s at ≡ at
+pub end_zero : (s : List ℕ) (at : ℕ) → end_from 0 s at ≡ at
 unfolding end_from
 end_zero s at = refl
 

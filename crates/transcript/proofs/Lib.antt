@@ -5,5 +5,6 @@ pub mod Cutting
 pub mod Followed
 pub mod Alike
 pub mod Appending
+pub mod Moved
 pub mod Opening
 pub mod Appended

@@ -26,11 +26,12 @@ going_on k p s at = page_of (length s + 1) (k + p.count) p.state s at
 abbrev pub appended_replies : List ℕ → List ℕ → Page
 appended_replies s t = going_on 1 (replies_in s) (s ++ t) (length s)
 
--- What a journal said stays said when bytes are appended. It opens as it did. Its requests are the first, in order, and those appended follow.
--- Its replies are the first, and those to what is appended follow, at the next places and on the state that it left. Printed are its replies,
--- those that follow, and the table after all.
+-- What a journal said stays said when bytes are appended. It opens as it did. Its requests are the first, in order, and those that the appended
+-- bytes ask alone follow. Its replies are the first, and those to what is appended follow, at the next places and on the state that it left.
+-- Printed are its replies, those that follow, and the table after all. Where the appended records are whole, so are all.
 pub record Appended (s t : List ℕ) : Type 0 where
   pub opening : journal_opened (s ++ t) ≡ journal_opened s
-  pub requests : requests_in (s ++ t) ≡ requests_in s ++ requests_of (s ++ t) (length s)
+  pub requests : requests_in (s ++ t) ≡ requests_in s ++ requests_of t 0
   pub replies : replies_in (s ++ t) ≡ joined (replies_in s) (appended_replies s t)
   pub printed : length (s ++ t) ≤ journal_limit → journal_text (s ++ t) ≡ (replies_in s).text ++ replies_text (appended_replies s t)
+  pub whole : Whole t 0 → Whole (s ++ t) (journal_opened (s ++ t)).place
