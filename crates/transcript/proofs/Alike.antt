@@ -10,8 +10,7 @@ use borrow.Author.Tests.{lt-ltb, le-ltb, eq-eqb, ne_eqb}
 use Rattle.laws.specs.Signed.{signed32}
 use Rattle.laws.proofs.Cases.{by_lt, by_eq}
 use Rattle.model.specs.declared.Refusal.{Refusal}
-use Rattle.model.specs.declared.Refusal.TheVariants.{Short, UnknownMark}
-use Rattle.model.specs.declared.Aquifer.{Aquifer}
+use Rattle.model.specs.declared.Refusal.TheVariants.{Short}
 use Rattle.model.specs.declared.Title.TheVariants.{UnitWithdrawal, AquiferWithdrawal, UnitTransfer, AquiferTransfer, ReturningWithdrawal}
 use Rattle.model.specs.declared.Call.{Call}
 use Rattle.model.specs.declared.Call.TheVariants.{Grant, Cancel}
@@ -19,18 +18,17 @@ use Rattle.runoff.specs.declared.Measure.{Measure}
 use Rattle.runoff.specs.declared.Measure.TheVariants.{Millimetres, Tenths}
 use Rattle.runoff.specs.declared.Rain.{Rain}
 use Rattle.runoff.specs.declared.Gauged.{Gauged}
-use Rattle.runoff.specs.Record.{Year, of_rain, of_gauge}
+use Rattle.runoff.specs.Record.{of_rain, of_gauge}
 use Rattle.record.specs.declared.Mark.{Mark}
 use Rattle.record.specs.declared.Mark.TheVariants.{Un, Su, Pr, Pd, Af, Ac, Call as CallMarked}
 use Rattle.record.specs.declared.CallMark.{CallMark}
 use Rattle.record.specs.declared.CallMark.TheVariants.{Gu, Ga, Tu, Ta, Gw, Ca}
-use Rattle.record.specs.declared.CallAt.{CallAt}
 use Rattle.record.specs.declared.CallAt.TheVariants.{End as noCall, Fails as failed, Asks}
 use Rattle.record.specs.Bytes.{bits8, bits16, bits32, signed_bits32}
 use Rattle.record.specs.Record.{mark_of, call_mark, aquifer_record}
 use Rattle.record.specs.Described.{unit_at, plot_at, rain_at, gauged_at}
 use Rattle.record.specs.Entries.{Entry, unit_entry, soil_entry, year_entry, aquifer_entry, no_entry, failing, stands, whole_entry, entry_marked, entry_at}
-use Rattle.record.specs.Calls.{whole_call, size_of, call_of, call_marked, call_at}
+use Rattle.record.specs.Calls.{size_of, call_of, call_marked, call_at}
 
 module _ (s : List ℕ) (at : ℕ) where
   -- Nothing left ends the description.

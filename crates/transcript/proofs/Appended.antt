@@ -1,8 +1,7 @@
 -- What a journal said stays said when bytes are appended. Assumes nothing.
 use Rattle.std.specs.Prelude.{Ok}
-use Prim.Native.Nat.{ℕ, ◌+◌, ◌≤◌, ◌<◌}
-use mathlib.Core.Path.{◌≡◌, sym, ap, ◌∙◌}
-use mathlib.Core.Bool.{cond}
+use Prim.Native.Nat.{ℕ, ◌≤◌, ◌<◌}
+use mathlib.Core.Path.{◌≡◌, ap, ◌∙◌}
 use mathlib.Core.List.{List, ◌++◌, append_assoc}
 use lib.ListN.{length}
 use native.Mathlib.Omega.{arith}
@@ -10,13 +9,13 @@ use borrow.Author.Tests.{le-ltb}
 use Rattle.model.specs.Answers.{Answer}
 use Rattle.model.specs.View.{view_of}
 use Rattle.planning.specs.declared.Opened.{Opened}
-use Rattle.requests.specs.Requests.{Request, asks, request_at, requests_of}
+use Rattle.requests.specs.Requests.{Request, requests_of}
 use Rattle.listing.specs.Listing.{table_text}
-use Rattle.replay.specs.Page.{Page, joined}
+use Rattle.replay.specs.Page.{joined}
 use Rattle.replay.specs.Journal.{journal_opened, journal_limit, all_replies, replies_text, opened_text, journal_text}
 use Rattle.transcript.specs.Followed.{requests_in, replies_in}
 use Rattle.transcript.specs.Appended.{end_of, Whole, appended_replies, Appended}
-use Rattle.transcript.proofs.Appending.{requests_appended, replies_appended, request_goes}
+use Rattle.transcript.proofs.Appending.{requests_appended, replies_appended}
 use Rattle.transcript.proofs.Moved.{requests_alone, whole_appended}
 use Rattle.transcript.proofs.Opening.{opening_appended}
 

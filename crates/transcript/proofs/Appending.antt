@@ -1,8 +1,8 @@
 -- What a journal asks stays asked when bytes are appended, and its replies stay its replies: those to what is appended follow. Assumes nothing.
 use Rattle.std.specs.Prelude.{Option, Some, None}
 use Prim.Native.Nat.{ℕ, zero, suc, ◌+◌, ◌-◌, ◌≤◌, ◌<◌}
-use mathlib.Core.Path.{◌≡◌, refl, sym, ap, ap₂, subst, ◌∙◌}
-use mathlib.Core.Bool.{Bool, true, false, cond}
+use mathlib.Core.Path.{◌≡◌, refl, sym, ap, ap₂, ◌∙◌}
+use mathlib.Core.Bool.{Bool, true, false}
 use mathlib.Core.List.{List, [], ◌∷◌, ◌++◌, append_assoc}
 use lib.ListN.{length, get_or, take, drop, length-append, length-drop, get_or-append}
 use lib.Seq.{drop-append-le, take-append-le}
@@ -11,10 +11,8 @@ use borrow.Author.Tests.{lt-ltb, le-ltb}
 use Rattle.laws.proofs.Cases.{by_lt}
 use Rattle.model.specs.declared.Refusal.{Refusal}
 use Rattle.model.specs.declared.Refusal.TheVariants.{Short}
-use Rattle.model.specs.declared.Call.{Call}
 use Rattle.record.specs.declared.CallAt.{CallAt}
 use Rattle.record.specs.declared.CallAt.TheVariants.{End as noCall, Fails as failing, Asks}
-use Rattle.record.specs.Bytes.{bits8}
 use Rattle.record.specs.Calls.{call_at}
 use Rattle.planning.specs.declared.Name.{Name}
 use Rattle.planning.specs.declared.State.{State}
@@ -24,7 +22,7 @@ use Rattle.requests.specs.declared.OwnMark.TheVariants.{Kp, Gb}
 use Rattle.requests.specs.declared.RecordAt.{RecordAt}
 use Rattle.requests.specs.declared.RecordAt.TheVariants.{End, Fails, Calls, Keeps, Returns}
 use Rattle.requests.specs.Records.{own_mark, own_at, name_at, own_marked, besides, record_at}
-use Rattle.requests.specs.Requests.{Request, ask, keep, back, state_after, Asking, ends, fails, asks, asking, request_at, requests_from, requests_of}
+use Rattle.requests.specs.Requests.{Request, keep, back, state_after, Asking, ends, fails, asks, asking, request_at, requests_from, requests_of}
 use Rattle.replay.specs.Page.{Page, reply_to, joined, page_of}
 use Rattle.replay.proofs.Records.{Onward, onward as record-onward}
 use Rattle.replay.proofs.Replaying.{page_ends, page_fails, page_asks, page_none}

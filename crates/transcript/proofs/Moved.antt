@@ -1,19 +1,17 @@
 -- Records that stand after others are read as they are alone. Assumes nothing.
 use Rattle.std.specs.Prelude.{Option, Some, None}
-use Prim.Native.Nat.{ℕ, zero, suc, ◌+◌, ◌-◌, ◌*◌, ◌≤◌, ◌<◌}
-use mathlib.Core.Path.{◌≡◌, refl, sym, ap, ap₂, subst, ◌∙◌}
-use mathlib.Core.Bool.{Bool, true, false, cond}
-use mathlib.Core.List.{List, [], ◌∷◌, ◌++◌, append_assoc}
+use Prim.Native.Nat.{ℕ, zero, suc, ◌+◌, ◌-◌, ◌*◌, ◌<◌}
+use mathlib.Core.Path.{◌≡◌, refl, sym, ap, ap₂, ◌∙◌}
+use mathlib.Core.Bool.{cond}
+use mathlib.Core.List.{List, ◌∷◌, ◌++◌}
 use lib.Dec.{ltb}
-use lib.ListN.{length, get_or, take, drop, length-append}
+use lib.ListN.{length, take, drop, length-append}
 use lib.Seq.{get_or-append-add, drop-append-add}
 use native.Mathlib.Omega.{arith}
 use borrow.Author.Tests.{lt-ltb, le-ltb}
 use Rattle.laws.proofs.Cases.{by_lt, by_eq}
 use Rattle.model.specs.declared.Refusal.{Refusal}
-use Rattle.model.specs.declared.Refusal.TheVariants.{Short, UnknownMark}
 use Rattle.model.specs.declared.Title.TheVariants.{UnitWithdrawal, AquiferWithdrawal, UnitTransfer, AquiferTransfer, ReturningWithdrawal}
-use Rattle.model.specs.declared.Call.{Call}
 use Rattle.model.specs.declared.Call.TheVariants.{Grant, Cancel}
 use Rattle.record.specs.declared.CallMark.{CallMark}
 use Rattle.record.specs.declared.CallMark.TheVariants.{Gu, Ga, Tu, Ta, Gw, Ca}
@@ -21,16 +19,13 @@ use Rattle.record.specs.declared.CallAt.{CallAt}
 use Rattle.record.specs.declared.CallAt.TheVariants.{End as noCall, Fails as failing, Asks}
 use Rattle.record.specs.Bytes.{bits8, bits16, bits32}
 use Rattle.record.specs.Record.{call_mark}
-use Rattle.record.specs.Calls.{whole_call, size_of, call_of, call_marked, call_at}
-use Rattle.planning.specs.declared.Name.{Name}
+use Rattle.record.specs.Calls.{size_of, call_of, call_marked, call_at}
 use Rattle.planning.specs.Names.{name_length}
 use Rattle.requests.specs.declared.OwnMark.{OwnMark}
 use Rattle.requests.specs.declared.OwnMark.TheVariants.{Kp, Gb}
-use Rattle.requests.specs.declared.RecordAt.{RecordAt}
-use Rattle.requests.specs.declared.RecordAt.TheVariants.{End, Fails, Calls, Keeps, Returns}
-use Rattle.requests.specs.Records.{own_mark, own_at, name_at, own_marked, besides, record_at}
-use Rattle.requests.specs.Requests.{Request, ask, keep, back, Asking, ends, fails, asks, asking, request_at, requests_from, requests_of}
-use Rattle.transcript.specs.Appended.{end_from, end_of, Whole}
+use Rattle.requests.specs.Records.{own_mark, own_at, name_at, own_marked, besides}
+use Rattle.requests.specs.Requests.{Request, keep, back, Asking, ends, fails, asks, asking, request_at, requests_from, requests_of}
+use Rattle.transcript.specs.Appended.{end_from, Whole}
 use Rattle.transcript.proofs.Alike.{call_end, call_lone, call_marked_lem}
 use Rattle.transcript.proofs.Appending.{asked_by, by_asking, from_none, from_failing, from_asked, from_zero, end_none, end_failing, end_asked, end_zero, same_requests, request_goes, request_appended, within}
 

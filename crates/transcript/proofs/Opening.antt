@@ -3,9 +3,9 @@ use Rattle.std.specs.Prelude.{Option, Some, None, Ok, Err}
 use Prim.Native.Nat.{ℕ, zero, suc, ◌+◌, ◌-◌, ◌≤◌, ◌<◌}
 use mathlib.Core.Path.{◌≡◌, refl, sym, ap, ap₂, subst, ◌∙◌}
 use mathlib.Core.Bool.{Bool, true, false, cond}
-use mathlib.Core.List.{List, [], ◌∷◌, ◌++◌}
-use lib.Dec.{eqb, ltb}
-use lib.ListN.{length, get_or, take, length-append, get_or-append}
+use mathlib.Core.List.{List, [], ◌++◌}
+use lib.Dec.{eqb}
+use lib.ListN.{length, get_or, take}
 use lib.Seq.{length-take-le, get_or-take, take-append-le}
 use native.Mathlib.Omega.{arith}
 use borrow.Author.Tests.{lt-ltb, le-ltb, eqb-true}
@@ -19,18 +19,16 @@ use Rattle.record.specs.declared.Mark.TheVariants.{Un, Su, Pr, Pd, Af, Ac, Call}
 use Rattle.record.specs.Bytes.{bits8}
 use Rattle.record.specs.Record.{spells, mark_of}
 use Rattle.record.specs.Entries.{Entry, no_entry, failing, stands, whole_entry, entry_marked, entry_at}
-use Rattle.book.specs.Reading.{Description, closed_by, last_unit, last_sums, balance_of, Outcome, read, refused, fault_at, missing, negative, ended, with_entry, Verdict, clear, entry_verdict, reading_from, reading, opened_as}
+use Rattle.book.specs.Reading.{Description, closed_by, last_unit, balance_of, Outcome, read, refused, fault_at, missing, negative, ended, with_entry, clear, entry_verdict, reading_from, reading, opened_as}
 use Rattle.book.proofs.Entries.{standing, by_record, reads_end, reads_failing, reads_faulty, reads_clear}
 use Rattle.book.proofs.Promises.{accepted_exactly}
 use Rattle.planning.specs.declared.Opened.{Opened}
 use Rattle.planning.specs.State.{nothing_kept}
 use Rattle.planning.specs.Calls.{opened_state}
-use Rattle.requests.specs.declared.OwnMark.{OwnMark}
 use Rattle.requests.specs.Records.{own_mark, own_at}
 use Rattle.replay.specs.Journal.{unknown, is_own, ends_there, journal_opened}
-use Rattle.replay.proofs.Ending.{past_end}
 use Rattle.transcript.proofs.Followed.{opened_as_book}
-use Rattle.transcript.proofs.Alike.{entry_end, entry_lone, entry_marked_lem, same_entry}
+use Rattle.transcript.proofs.Alike.{entry_lone, entry_marked_lem, same_entry}
 use Rattle.transcript.proofs.Appending.{same, within, same_own}
 
 -- An outcome that is read ends at an offset.
