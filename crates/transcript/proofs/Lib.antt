@@ -1,7 +1,12 @@
--- The theorems of journals: their pages, their whole text, where their description ends, what stands after their records, those that print as a
--- book does, and two examples.
+-- The theorems of journals: their pages, their whole text, where their description ends, those that print as a book does with two examples,
+-- what stands after their records, and what stays when bytes are appended.
 pub mod Pages
 pub mod Whole
 pub mod Cutting
-pub mod Followed
 pub mod Books
+pub mod Followed
+pub mod Alike
+pub mod Appending
+pub mod Moved
+pub mod Opening
+pub mod Appended
