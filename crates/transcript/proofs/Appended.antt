@@ -1,29 +1,22 @@
 -- What a journal said stays said when bytes are appended. Assumes nothing.
 use Rattle.std.specs.Prelude.{Ok}
-use Prim.Native.Nat.{ℕ, ◌≤◌, ◌<◌}
+use Prim.Native.Nat.{ℕ, ◌<◌}
 use mathlib.Core.Path.{◌≡◌, ap, ◌∙◌}
 use mathlib.Core.List.{List, ◌++◌, append_assoc}
 use lib.ListN.{length}
 use native.Mathlib.Omega.{arith}
-use borrow.Author.Tests.{le-ltb}
-use Rattle.model.specs.Answers.{Answer}
 use Rattle.model.specs.View.{view_of}
 use Rattle.planning.specs.declared.Opened.{Opened}
 use Rattle.requests.specs.Requests.{Request, requests_of}
 use Rattle.listing.specs.Listing.{table_text}
 use Rattle.replay.specs.Page.{joined}
-use Rattle.replay.specs.Journal.{journal_opened, journal_limit, all_replies, replies_text, opened_text, journal_text}
+use Rattle.replay.specs.Journal.{journal_opened, all_replies, replies_text}
 use Rattle.transcript.specs.Followed.{requests_in, replies_in}
 use Rattle.transcript.specs.Appended.{end_of, Whole, appended_replies, Appended}
+use Rattle.transcript.proofs.Followed.{printed_after}
 use Rattle.transcript.proofs.Appending.{requests_appended, replies_appended}
 use Rattle.transcript.proofs.Moved.{requests_alone, whole_appended}
 use Rattle.transcript.proofs.Opening.{opening_appended}
-
--- A journal that is accepted prints its replies and the table after them.
-prints : (s : List ℕ) → (journal_opened s).answer ≡ Ok tt → length s ≤ journal_limit → journal_text s ≡ replies_text (replies_in s)
-prints s e h =
-    rw (le-ltb journal_limit (length s) h)
-    (ap (λ (x : Answer). opened_text s x (journal_opened s).place (journal_opened s).state) e)
 
 module _ (s t : List ℕ) (e : (journal_opened s).answer ≡ Ok tt) (h : (journal_opened s).place < length s) (w : Whole s (journal_opened s).place) where
   opening : journal_opened (s ++ t) ≡ journal_opened s
@@ -45,7 +38,7 @@ module _ (s t : List ℕ) (e : (journal_opened s).answer ≡ Ok tt) (h : (journa
             ∙ ap (λ (l : List Request). requests_in s ++ l) (requests_alone s t);
         replies = replies;
         printed = λ l.
-            prints (s ++ t) (ap (λ (o : Opened). o.answer) opening ∙ e) l
+            printed_after (s ++ t) l (ap (λ (o : Opened). o.answer) opening ∙ e)
             ∙ ap replies_text replies
             ∙ append_assoc (replies_in s).text (appended_replies s t).text (table_text (view_of (appended_replies s t).state.balance));
         whole = λ v.

@@ -28,13 +28,10 @@ use Rattle.replay.proofs.Records.{Onward, onward as record-onward}
 use Rattle.replay.proofs.Replaying.{page_ends, page_fails, page_asks, page_none}
 use Rattle.transcript.specs.Followed.{failure_from}
 use Rattle.transcript.specs.Appended.{end_from, end_of, Whole, going_on}
+use Rattle.transcript.proofs.Pages.{asked_by, same_pages}
 use Rattle.transcript.proofs.Alike.{call_end, same_call, same_failed}
 
--- What is asked, by the call of a book that stands at an offset, and by the mark of a journal alone.
-pub asked_by : (s : List ℕ) (at : ℕ) (x : CallAt) → call_at s at ≡ x → request_at s at ≡ asking (besides x s at) s at
-unfolding record_at
-asked_by s at x e = ap (λ (y : CallAt). asking (besides y s at) s at) e
-
+-- What is asked by a record that no call of a book is, by the mark of a journal alone.
 asked_own : (s : List ℕ) (at : ℕ) (n : Refusal) (m : Option OwnMark) → call_at s at ≡ failing n → own_at s at ≡ m
     → request_at s at ≡ asking (own_marked m s at n) s at
 asked_own s at n m e o = asked_by s at (failing n) e ∙ ap (λ (y : Option OwnMark). asking (own_marked y s at n) s at) o
@@ -164,21 +161,6 @@ same_requests (suc f) (suc g) s at h i =
     from_asked f s at r to e
     ∙ ap (λ (l : List Request). r ∷ l) (same_requests f g s to (omega (arith, o.0, o.1)) (omega (arith, o.0, o.1)))
     ∙ sym (from_asked g s at r to e))
-
--- Two allowances above the number of bytes that are left give the same page.
-pub same_pages : (f g k : ℕ) (st : State) (s : List ℕ) (at : ℕ) → length s - at < f → length s - at < g → page_of f k st s at ≡ page_of g k st s at
-same_pages zero g k st s at h i = absurd (omega arith)
-same_pages (suc f) zero k st s at h i = absurd (omega arith)
-same_pages (suc f) (suc g) k st s at h i =
-    by_asking s at
-    (λ e. page_ends f k st s at e ∙ sym (page_ends g k st s at e))
-    (λ n e. page_fails f k st s at n e ∙ sym (page_fails g k st s at n e))
-    (λ r to e.
-    let o = request_goes s at r to e in
-    page_asks f k st s at r to e
-    ∙ ap (joined (reply_to (asks r to) k st at))
-    (same_pages f g (suc k) (state_after st r) s to (omega (arith, o.0, o.1)) (omega (arith, o.0, o.1)))
-    ∙ sym (page_asks g k st s at r to e))
 
 -- A page, and then the records from another offset on, at the places after it and on the state that it left.
 abbrev follows : ℕ → ℕ → List ℕ → ℕ → Page → Page

@@ -1,6 +1,6 @@
 -- A mark of a journal alone ends the description as a call mark does. Assumes nothing.
 use Rattle.std.specs.Prelude.{Option, Some, None, Ok, Err}
-use Prim.Native.Nat.{ℕ, zero, suc, ◌+◌, ◌-◌, ◌*◌, ◌≤◌, ◌<◌}
+use Prim.Native.Nat.{ℕ, zero, suc, ◌+◌, ◌-◌, ◌≤◌, ◌<◌}
 use mathlib.Core.Path.{◌≡◌, refl, sym, ap, ap₂, subst, ◌∙◌}
 use mathlib.Core.Bool.{Bool, true, false, not, cond}
 use mathlib.Core.List.{List, [], ◌∷◌, ◌++◌}
@@ -8,26 +8,21 @@ use lib.Dec.{eqb, ltb, leb}
 use lib.ListN.{length, get_or, take, length-append, get_or-append}
 use lib.Seq.{length-take-le, get_or-take, get_or_at, get_or-append-add}
 use native.Mathlib.Omega.{arith}
-use borrow.Author.Tests.{lt-ltb, le-ltb, eq-eqb, ne_eqb, eqb-true}
-use Rattle.laws.specs.Signed.{signed32}
-use Rattle.laws.proofs.Cases.{by_bool, by_lt, by_eq}
+use borrow.Author.Tests.{eqb-true}
+use Rattle.laws.proofs.Cases.{by_bool, by_lt}
 use Rattle.laws.proofs.Every.{both}
 use Rattle.model.specs.declared.Refusal.{Refusal}
 use Rattle.model.specs.declared.Refusal.TheVariants.{Short, UnknownMark, BadDownstream, NegativeFlow, OutOfSequence, TooMany, OutsideValues, FewYears, LargeUnit, BadGauge, NegativeRecharge, Unsound, NoSuchPlace, NoSuchUse, BadVolume, NumbersGiven, EntryFull, NoWater, ReceiverBelow, NotInForce, FlowNeeded, TooLong, FifthName, NoSuchName}
 use Rattle.model.specs.declared.Aquifer.{Aquifer}
 use Rattle.figures.specs.Recharge.{is_recharged}
-use Rattle.runoff.specs.declared.Measure.{Measure}
-use Rattle.runoff.specs.declared.Measure.TheVariants.{Millimetres, Tenths}
-use Rattle.runoff.specs.declared.Rain.{Rain}
-use Rattle.runoff.specs.declared.Gauged.{Gauged}
 use Rattle.runoff.specs.Record.{Year, of_rain, of_gauge}
 use Rattle.record.specs.declared.UnitRecord.{UnitRecord}
 use Rattle.record.specs.declared.Mark.{Mark}
-use Rattle.record.specs.declared.Mark.TheVariants.{Un, Su, Pr, Pd, Af, Ac, Call}
-use Rattle.record.specs.Bytes.{bits8, bits16, bits32, signed_bits32}
-use Rattle.record.specs.Record.{spells, is_call, mark_of, aquifer_record}
-use Rattle.record.specs.Described.{unit_at, plot_at, rain_at, gauged_at, summed}
-use Rattle.record.specs.Entries.{Entry, unit_entry, soil_entry, year_entry, aquifer_entry, no_entry, failing, stands, whole_entry, entry_marked, entry_at}
+use Rattle.record.specs.declared.Mark.TheVariants.{Call}
+use Rattle.record.specs.Bytes.{bits8}
+use Rattle.record.specs.Record.{spells, is_call, mark_of}
+use Rattle.record.specs.Described.{summed}
+use Rattle.record.specs.Entries.{Entry, unit_entry, soil_entry, year_entry, aquifer_entry, no_entry, stands, entry_marked, entry_at}
 use Rattle.record.specs.Fault.{bad_gauge, closing_fault, unit_outside, not_onward, unit_fault, soil_outside, soil_fault, rain_outside, gauged_outside, year_fault, aquifer_outside, aquifer_fault}
 use Rattle.model.specs.Answers.{Answer, number}
 use Rattle.book.specs.Reading.{Description, closed_by, last_unit, last_sums, balance_of, Outcome, read, refused, fault_at, missing, negative, ended, with_entry, Verdict, clear, faulty, unless_faulty, entry_verdict, reading_from, reading, opened_as}
@@ -38,6 +33,7 @@ use Rattle.planning.specs.Calls.{opened_state}
 use Rattle.requests.specs.Records.{own_at}
 use Rattle.replay.specs.Journal.{unknown, is_own, ends_there, journal_opened}
 use Rattle.replay.proofs.Ending.{past_end}
+use Rattle.transcript.proofs.Alike.{entry_end, entry_marked_lem, same_entry}
 
 -- An answer that is no refusal of an unknown mark.
 abbrev Other : Answer → Type 0
@@ -139,127 +135,6 @@ ended_other d at =
     (fault_other BadDownstream (missing d) _ (λ e. omega arith) (fault_other NegativeFlow (negative (balance_of d) d) (read d at) (λ e. omega arith) tt))
     (closing_other (length d.units) (last_sums d))
 
-module _ (s : List ℕ) (at : ℕ) where
-  -- Nothing left ends the description.
-  entry_end : length s ≤ at → entry_at s at ≡ no_entry
-  unfolding entry_at
-  entry_end h = rw (eq-eqb (length s - at) 0 (omega arith))
-
-  -- A lone last byte is 1.
-  entry_lone : length s ≡ at + 1 → entry_at s at ≡ failing Short
-  unfolding entry_at
-  entry_lone h = rw (ne_eqb (length s - at) 0 (λ e. omega arith), eq-eqb (length s - at) 1 (omega arith))
-
-  -- Two bytes or more are read by their mark.
-  entry_marked_lem : at + 2 ≤ length s → entry_at s at ≡ entry_marked (mark_of (bits8 s at) (bits8 s (at + 1))) s at
-  unfolding entry_at
-  entry_marked_lem h = rw (ne_eqb (length s - at) 0 (λ e. omega arith), ne_eqb (length s - at) 1 (λ e. omega arith))
-
--- Of a list that has the bytes of another below an offset P.
-module _ (s t : List ℕ) (P : ℕ) (same : (i : ℕ) → i < P → get_or t i 0 ≡ get_or s i 0) (within : P ≤ length t) where
-  -- 16 bits below the offset are the same.
-  same_16 : (i : ℕ) → i + 2 ≤ P → bits16 t i ≡ bits16 s i
-  same_16 i h = λ k. same i (omega arith) k + 256 * same (i + 1) (omega arith) k
-
-  -- 32 bits are the same.
-  same_32 : (i : ℕ) → i + 4 ≤ P → bits32 t i ≡ bits32 s i
-  same_32 i h = λ k. same_16 i (omega arith) k + 65536 * same_16 (i + 2) (omega arith) k
-
-  -- Signed 32 bits are the same.
-  same_signed : (i : ℕ) → i + 4 ≤ P → signed_bits32 t i ≡ signed_bits32 s i
-  same_signed i h = ap signed32 (same_32 i h)
-
-  -- A UN is the same.
-  same_unit : (at : ℕ) → at + 31 ≤ P → unit_at t at ≡ unit_at s at
-  same_unit at h = λ k.
-      record {
-        at = at;
-        downstream = same (at + 2) (omega arith) k;
-        extraction = same_32 (at + 3) (omega arith) k;
-        exports = same_32 (at + 7) (omega arith) k;
-        imports = same_32 (at + 11) (omega arith) k;
-        returns = same_32 (at + 15) (omega arith) k;
-        evaporation = same_32 (at + 19) (omega arith) k;
-        storage = same_signed (at + 23) (omega arith) k;
-        commitment = same_32 (at + 27) (omega arith) k;
-        plots = [];
-        years = [];
-      }
-
-  -- An SU is the same.
-  same_plot : (at : ℕ) → at + 8 ≤ P → plot_at t at ≡ plot_at s at
-  same_plot at h = λ k.
-      record { cover = same (at + 2) (omega arith) k; soil = same (at + 3) (omega arith) k; hectares = same_32 (at + 4) (omega arith) k }
-
-  -- A PR or PD is the same.
-  same_rain : (m : Measure) (at : ℕ) → at + 4 ≤ P → rain_at m t at ≡ rain_at m s at
-  same_rain m at h = λ k. record { measure = m; depth = same_16 (at + 2) (omega arith) k }
-
-  -- An AF is the same.
-  same_gauge : (at : ℕ) → at + 34 ≤ P → gauged_at t at ≡ gauged_at s at
-  same_gauge at h = λ k.
-      record {
-        outflow = same_32 (at + 2) (omega arith) k;
-        inflow = same_32 (at + 6) (omega arith) k;
-        extraction = same_32 (at + 10) (omega arith) k;
-        exports = same_32 (at + 14) (omega arith) k;
-        imports = same_32 (at + 18) (omega arith) k;
-        returns = same_32 (at + 22) (omega arith) k;
-        evaporation = same_32 (at + 26) (omega arith) k;
-        storage = same_signed (at + 30) (omega arith) k;
-      }
-
-  -- An AC is the same.
-  same_aquifer : (at : ℕ) → at + 22 ≤ P → aquifer_record t at ≡ aquifer_record s at
-  same_aquifer at h = λ k.
-      record {
-        storage = same_signed (at + 2) (omega arith) k;
-        natural = same_32 (at + 6) (omega arith) k;
-        pumped = same_32 (at + 10) (omega arith) k;
-        committed = same_32 (at + 14) (omega arith) k;
-        extraction = same_32 (at + 18) (omega arith) k;
-      }
-
-  module _ (at : ℕ) (e : Entry) (to : ℕ) (h : to ≤ P) where
-    -- A record that is whole in the one and ends by the offset P is whole in the other.
-    same_whole : (size : ℕ) (x y : Entry) → 2 ≤ size → (at + size ≤ P → y ≡ x) → whole_entry s at size x ≡ stands e to
-        → (at + 2 ≤ to) × (whole_entry t at size y ≡ stands e to)
-    same_whole size x y big eq q =
-        by_lt (length s - at) size
-        (λ l.
-        let w : failing Short ≡ stands e to = rw (lt-ltb (length s - at) size l) at q in
-        let z : ◌≡◌ {A = ℕ} 0 1 = cc in
-        absurd (omega arith))
-        (λ l.
-        let w : stands x (at + size) ≡ stands e to = rw (le-ltb (length s - at) size l) at q in
-        let v : at + size ≡ to = cc in
-        let g : stands y (at + size) ≡ stands x (at + size) = ap (λ (z : Entry). stands z (at + size)) (eq (omega arith)) in
-        (omega arith, rw (le-ltb (length t - at) size (omega arith)) (g ∙ w)))
-
-    -- A record of any mark that stands in the one and ends by P stands in the other.
-    same_marked : (m : Option Mark) → entry_marked m s at ≡ stands e to → (at + 2 ≤ to) × (entry_marked m t at ≡ stands e to)
-    same_marked (Some Un) q = same_whole 31 _ _ (omega arith) (λ l. ap unit_entry (same_unit at l)) q
-    same_marked (Some Su) q = same_whole 8 _ _ (omega arith) (λ l. ap soil_entry (same_plot at l)) q
-    same_marked (Some Pr) q = same_whole 4 _ _ (omega arith) (λ l. ap (λ (r : Rain). year_entry (of_rain r)) (same_rain Millimetres at l)) q
-    same_marked (Some Pd) q = same_whole 4 _ _ (omega arith) (λ l. ap (λ (r : Rain). year_entry (of_rain r)) (same_rain Tenths at l)) q
-    same_marked (Some Af) q = same_whole 34 _ _ (omega arith) (λ l. ap (λ (y : Gauged). year_entry (of_gauge y)) (same_gauge at l)) q
-    same_marked (Some Ac) q = same_whole 22 _ _ (omega arith) (λ l. ap aquifer_entry (same_aquifer at l)) q
-    same_marked (Some Call) q = let z : ◌≡◌ {A = ℕ} 0 1 = cc in absurd (omega arith)
-    same_marked None q = let z : ◌≡◌ {A = ℕ} 0 1 = cc in absurd (omega arith)
-
-    -- So does the record at an offset, since the marks are the same.
-    same_entry : entry_at s at ≡ stands e to → entry_at t at ≡ stands e to
-    same_entry q =
-        by_lt at (length s)
-        (λ l. by_eq (length s) (at + 1)
-        (λ g. let w = sym (entry_lone s at g) ∙ q in let z : ◌≡◌ {A = ℕ} 0 1 = cc in absurd (omega arith))
-        (λ g.
-        let m = same_marked (mark_of (bits8 s at) (bits8 s (at + 1))) (sym (entry_marked_lem s at (omega arith)) ∙ q) in
-        let b : mark_of (bits8 t at) (bits8 t (at + 1)) ≡ mark_of (bits8 s at) (bits8 s (at + 1)) =
-        ap₂ mark_of (same at (omega (arith, m.0))) (same (at + 1) (omega (arith, m.0))) in
-        entry_marked_lem t at (omega (arith, m.0)) ∙ ap (λ (x : Option Mark). entry_marked x t at) b ∙ m.1))
-        (λ l. let w = sym (entry_end s at l) ∙ q in let z : ◌≡◌ {A = ℕ} 0 1 = cc in absurd (omega arith))
-
 -- A list that is cut at an offset: it has the bytes of another below it, and nothing of a description stands at it.
 record Cut (s t : List ℕ) (P : ℕ) : Type 0 where
   same : (i : ℕ) → i < P → get_or t i 0 ≡ get_or s i 0
@@ -321,7 +196,7 @@ cut_alike s x t P h c k =
     r.ends x c (length x + 1) (omega arith) ∙ sym (r.ends t k (length t + 1) (omega arith))
 
 -- Two bytes are the two letters, or they do not spell them.
-by_spelling : {X : Type 0} (a b x y : ℕ) → (a ≡ x → b ≡ y → X) → (spells a b x y ≡ false → X) → X
+pub by_spelling : {X : Type 0} (a b x y : ℕ) → (a ≡ x → b ≡ y → X) → (spells a b x y ≡ false → X) → X
 by_spelling a b x y p q =
     by_bool (spells a b x y)
     (λ e. let h = both (eqb a x) (eqb b y) e in p (eqb-true a x h.0) (eqb-true b y h.1))
@@ -368,7 +243,7 @@ module _ (s : List ℕ) (P : ℕ) (h : P ≤ length s) where
       }
 
 -- The state that an outcome opens.
-abbrev state_of : Outcome → Opened
+abbrev pub state_of : Outcome → Opened
 state_of o = record { answer = (opened_as o).answer; place = (opened_as o).place; state = nothing_kept (opened_as o).balance }
 
 -- The number of an unknown mark is no other refusal's.

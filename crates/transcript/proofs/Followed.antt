@@ -57,7 +57,7 @@ page_text (suc m) k st s at = text_one m k st s at (λ k st to. page_text m k st
 
 module _ (s : List ℕ) (h : length s ≤ journal_limit) (e : (journal_opened s).answer ≡ Ok tt) where
   -- What is printed is the replies and the table of the balance after them.
-  printed_after : journal_text s ≡ replies_text (replies_in s)
+  pub printed_after : journal_text s ≡ replies_text (replies_in s)
   printed_after =
       rw (le-ltb journal_limit (length s) h)
       (ap (λ (x : Answer). opened_text s x (journal_opened s).place (journal_opened s).state) e)

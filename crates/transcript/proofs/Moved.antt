@@ -27,7 +27,8 @@ use Rattle.requests.specs.Records.{own_mark, own_at, name_at, own_marked, beside
 use Rattle.requests.specs.Requests.{Request, keep, back, Asking, ends, fails, asks, asking, request_at, requests_from, requests_of}
 use Rattle.transcript.specs.Appended.{end_from, Whole}
 use Rattle.transcript.proofs.Alike.{call_end, call_lone, call_marked_lem}
-use Rattle.transcript.proofs.Appending.{asked_by, by_asking, from_none, from_failing, from_asked, from_zero, end_none, end_failing, end_asked, end_zero, same_requests, request_goes, request_appended, within}
+use Rattle.transcript.proofs.Pages.{asked_by}
+use Rattle.transcript.proofs.Appending.{by_asking, from_none, from_failing, from_asked, from_zero, end_none, end_failing, end_asked, end_zero, same_requests, request_goes, request_appended, within}
 
 -- What stands at an offset, as it stands n bytes later.
 abbrev later_call : ℕ → CallAt → CallAt

@@ -4,11 +4,10 @@ use Prim.Native.Nat.{ℕ, zero, suc, ◌+◌, ◌-◌, ◌≤◌, ◌<◌}
 use mathlib.Core.Path.{◌≡◌, refl, sym, ap, ap₂, subst, ◌∙◌}
 use mathlib.Core.Bool.{Bool, true, false, cond}
 use mathlib.Core.List.{List, [], ◌++◌}
-use lib.Dec.{eqb}
 use lib.ListN.{length, get_or, take}
 use lib.Seq.{length-take-le, get_or-take, take-append-le}
 use native.Mathlib.Omega.{arith}
-use borrow.Author.Tests.{lt-ltb, le-ltb, eqb-true}
+use borrow.Author.Tests.{lt-ltb, le-ltb}
 use Rattle.laws.proofs.Cases.{by_bool, by_lt, by_eq}
 use Rattle.laws.proofs.Every.{both}
 use Rattle.model.specs.declared.Refusal.{Refusal}
@@ -17,17 +16,16 @@ use Rattle.model.specs.Answers.{Answer}
 use Rattle.record.specs.declared.Mark.{Mark}
 use Rattle.record.specs.declared.Mark.TheVariants.{Un, Su, Pr, Pd, Af, Ac, Call}
 use Rattle.record.specs.Bytes.{bits8}
-use Rattle.record.specs.Record.{spells, mark_of}
+use Rattle.record.specs.Record.{mark_of}
 use Rattle.record.specs.Entries.{Entry, no_entry, failing, stands, whole_entry, entry_marked, entry_at}
 use Rattle.book.specs.Reading.{Description, closed_by, last_unit, balance_of, Outcome, read, refused, fault_at, missing, negative, ended, with_entry, clear, entry_verdict, reading_from, reading, opened_as}
 use Rattle.book.proofs.Entries.{standing, by_record, reads_end, reads_failing, reads_faulty, reads_clear}
 use Rattle.book.proofs.Promises.{accepted_exactly}
 use Rattle.planning.specs.declared.Opened.{Opened}
-use Rattle.planning.specs.State.{nothing_kept}
 use Rattle.planning.specs.Calls.{opened_state}
 use Rattle.requests.specs.Records.{own_mark, own_at}
 use Rattle.replay.specs.Journal.{unknown, is_own, ends_there, journal_opened}
-use Rattle.transcript.proofs.Followed.{opened_as_book}
+use Rattle.transcript.proofs.Cutting.{by_spelling, state_of}
 use Rattle.transcript.proofs.Alike.{entry_lone, entry_marked_lem, same_entry}
 use Rattle.transcript.proofs.Appending.{same, within, same_own}
 
@@ -142,13 +140,6 @@ module _ (s t : List ℕ) (a : Alike s t (length s)) where
       ∙ sym (c.alike s own (ended c.last P) (λ f. reads_end f s P c.last c.ends) (length s + 1) (omega arith))
       ∙ e)
 
--- Two bytes are the two letters, or they do not spell them.
-by_spelling : {X : Type 0} (a b x y : ℕ) → (a ≡ x → b ≡ y → X) → (spells a b x y ≡ false → X) → X
-by_spelling a b x y p q =
-    by_bool (spells a b x y)
-    (λ e. let h = both (eqb a x) (eqb b y) e in p (eqb-true a x h.0) (eqb-true b y h.1))
-    q
-
 -- A mark of a journal alone is unknown in a book.
 own_unknown : (a b : ℕ) → is_own (own_mark a b) ≡ true → mark_of a b ≡ None
 own_unknown a b h =
@@ -169,17 +160,13 @@ module _ (s : List ℕ) (at : ℕ) (e : is_own (own_at s at) ≡ true) where
       let m : is_own (own_mark (bits8 s at) (bits8 s (at + 1))) ≡ true = rw (le-ltb (length s - at) 2 (omega arith)) at e in
       entry_marked_lem s at l ∙ ap (λ (x : Option Mark). entry_marked x s at) (own_unknown (bits8 s at) (bits8 s (at + 1)) m)
 
--- The state that an outcome opens.
-abbrev state_of : Outcome → Opened
-state_of o = record { answer = (opened_as o).answer; place = (opened_as o).place; state = nothing_kept (opened_as o).balance }
-
 -- A journal is opened as the bytes before a mark of its own that ends its description, and as it stands where none does.
 opens_cut : (s : List ℕ) → ends_there s (opened_state s).answer (opened_state s).place ≡ true
     → journal_opened s ≡ opened_state (take (opened_state s).place s)
-opens_cut s e = opened_as_book s ∙ ap (λ (t : Bool). opened_state (cond t (take (opened_state s).place s) s)) e
+opens_cut s e = ap (λ (t : Bool). opened_state (cond t (take (opened_state s).place s) s)) e
 
 opens_all : (s : List ℕ) → ends_there s (opened_state s).answer (opened_state s).place ≡ false → journal_opened s ≡ opened_state s
-opens_all s e = opened_as_book s ∙ ap (λ (t : Bool). opened_state (cond t (take (opened_state s).place s) s)) e
+opens_all s e = ap (λ (t : Bool). opened_state (cond t (take (opened_state s).place s) s)) e
 
 -- A journal that is accepted as a book is opened as one.
 opens_read : (s : List ℕ) (d : Description) (P : ℕ) → reading s ≡ read d P → journal_opened s ≡ state_of (read d P)

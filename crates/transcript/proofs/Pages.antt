@@ -158,7 +158,7 @@ module _ (f g k : ℕ) (st : State) (s : List ℕ) (at : ℕ)
       ∙ sym (page_asks g k st s at r to e)
 
 -- Two allowances above the number of bytes that are left give the same page.
-same_pages : (f g k : ℕ) (st : State) (s : List ℕ) (at : ℕ) → length s - at < f → length s - at < g → page_of f k st s at ≡ page_of g k st s at
+pub same_pages : (f g k : ℕ) (st : State) (s : List ℕ) (at : ℕ) → length s - at < f → length s - at < g → page_of f k st s at ≡ page_of g k st s at
 same_pages zero g k st s at h i = absurd (omega arith)
 same_pages (suc f) zero k st s at h i = absurd (omega arith)
 same_pages (suc f) (suc g) k st s at h i =
@@ -203,7 +203,7 @@ not_own s at n None e = refl
 
 -- What a journal asks at an offset, by the call of a book that stands there.
 module _ (s : List ℕ) (at : ℕ) where
-  asked_by : (x : CallAt) → call_at s at ≡ x → request_at s at ≡ asking (besides x s at) s at
+  pub asked_by : (x : CallAt) → call_at s at ≡ x → request_at s at ≡ asking (besides x s at) s at
   unfolding record_at
   asked_by x e = ap (λ (y : CallAt). asking (besides y s at) s at) e
 

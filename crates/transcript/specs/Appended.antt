@@ -1,4 +1,4 @@
--- Journals to which bytes are appended: where the records end, and what follows them. Assumes nothing.
+-- Journals to which bytes are appended: where their records end, and what stays. Assumes nothing.
 use Rattle.std.specs.Prelude.{ℕ, zero, suc, ◌+◌, ◌≤◌, ◌≡◌, List, ◌++◌, length}
 use Rattle.requests.specs.Requests.{ends, fails, asks, request_at, requests_of}
 use Rattle.replay.specs.Page.{Page, joined, page_of}
@@ -26,12 +26,14 @@ going_on k p s at = page_of (length s + 1) (k + p.count) p.state s at
 abbrev pub appended_replies : List ℕ → List ℕ → Page
 appended_replies s t = going_on 1 (replies_in s) (s ++ t) (length s)
 
--- What a journal said stays said when bytes are appended. It opens as it did. Its requests are the first, in order, and those that the appended
--- bytes ask alone follow. Its replies are the first, and those to what is appended follow, at the next places and on the state that it left.
--- Printed are its replies, those that follow, and the table after all. Where the appended records are whole, so are all.
+-- What a journal said stays said when bytes are appended to it.
 pub record Appended (s t : List ℕ) : Type 0 where
+  -- It opens as it did, its requests are the first, in order, and those that the appended bytes ask by themselves follow.
   pub opening : journal_opened (s ++ t) ≡ journal_opened s
   pub requests : requests_in (s ++ t) ≡ requests_in s ++ requests_of t 0
+  -- Its replies are the first, and those to what is appended follow, at the next places and on the state that it left.
   pub replies : replies_in (s ++ t) ≡ joined (replies_in s) (appended_replies s t)
+  -- Its replies are printed, then those that follow, and then the table after all.
   pub printed : length (s ++ t) ≤ journal_limit → journal_text (s ++ t) ≡ (replies_in s).text ++ replies_text (appended_replies s t)
+  -- Where the appended records are whole, so are all.
   pub whole : Whole t 0 → Whole (s ++ t) (journal_opened (s ++ t)).place
