@@ -1,10 +1,11 @@
 -- What each kind of request does to the state and to the two tests for 0. Assumes nothing.
-use Rattle.std.specs.Prelude.{Result, Ok, Err}
+use Rattle.std.specs.Prelude.{Option, Some, Result, Ok, Err}
 use Prim.Native.Nat.{ℕ}
 use mathlib.Core.Path.{◌≡◌, refl, sym, ap, ◌∙◌}
 use mathlib.Core.Bool.{Bool, ◌&&◌}
 use lib.Dec.{leb}
 use lib.ListN.{length}
+use Rattle.std.proofs.lemmas.Option.{same_Some}
 use Rattle.laws.proofs.Cases.{by_bool}
 use Rattle.model.specs.declared.Refusal.{Refusal}
 use Rattle.model.specs.Answers.{Answer}
@@ -30,10 +31,11 @@ use Rattle.report.specs.declared.Outcome.TheVariants.{Kept}
 use Rattle.listing.specs.Outcomes.{answered}
 use Rattle.replay.specs.Page.{kept_text}
 
--- What holds of the state in the loop beside its replies: what the two tests for 0 gave still holds, and its array is whole.
-pub record Tested (test whole : Bool) (st : State) : Type 0 where
+-- What holds of the state in the loop beside its replies: what the test of its balance gave still holds, and that of the whole state if it
+-- was made, and its array is whole.
+pub record Tested (test : Bool) (whole : Option Bool) (st : State) : Type 0 where
   pub balance : test ≡ sound (view_of st.balance)
-  pub state : whole ≡ sound_state st
+  pub state : (answer : Bool) → whole ≡ Some answer → answer ≡ sound_state st
   pub sized : Sized st
 
 -- A state is as sound with another current balance that is as sound.
@@ -49,14 +51,20 @@ back_sound st n z =
     (λ e. (standing st e).current ∙ sym (standing (back_reply st n).state (back_keeps st n z ∙ e)).current)
     (λ e. ap (λ (r : Reply). sound (view_of r.state.balance)) (sym (back_faulty st n e)))
 
+-- The test of the whole state was made, and its answer is known from then on.
+pub tested_whole : (test : Bool) (whole : Option Bool) (st : State) → Tested test whole st → (known : Option Bool) (answer : Bool) → known ≡ Some answer
+    → answer ≡ sound_state st → Tested test known st
+tested_whole test whole st t known answer is e =
+    record { balance = t.balance; state = λ a q. sym (same_Some answer a (sym is ∙ q)) ∙ e; sized = t.sized }
+
 -- Every request keeps that.
-module _ (test whole : Bool) (st : State) (t : Tested test whole st) (next : State) where
+module _ (test : Bool) (whole : Option Bool) (st : State) (t : Tested test whole st) (next : State) where
   pub tested_call : (c : Call) → next ≡ state_after st (ask c) → sound (view_of st.balance) ≡ sound (view_of next.balance) → Tested test whole next
   tested_call c e s =
       let b = (call_reply st.balance c).balance in
       record {
         balance = t.balance ∙ s;
-        state = t.state ∙ current_sound st b (s ∙ ap (λ (x : State). sound (view_of x.balance)) e) ∙ ap sound_state (sym e);
+        state = λ answer q. t.state answer q ∙ current_sound st b (s ∙ ap (λ (x : State). sound (view_of x.balance)) e) ∙ ap sound_state (sym e);
         sized = record { kept = ap (λ (x : State). length x.kept) e ∙ t.sized.kept };
       }
 
@@ -65,7 +73,7 @@ module _ (test whole : Bool) (st : State) (t : Tested test whole st) (next : Sta
       let stays = keep_stays st n in
       record {
         balance = t.balance ∙ ap (λ (x : Balance). sound (view_of x)) (sym stays.0) ∙ ap (λ (x : State). sound (view_of x.balance)) (sym e);
-        state = t.state ∙ sym (keep_keeps st n t.sized) ∙ ap sound_state (sym e);
+        state = λ answer q. t.state answer q ∙ sym (keep_keeps st n t.sized) ∙ ap sound_state (sym e);
         sized = record { kept = ap (λ (x : State). length x.kept) e ∙ stays.1 ∙ t.sized.kept };
       }
 
@@ -73,7 +81,7 @@ module _ (test whole : Bool) (st : State) (t : Tested test whole st) (next : Sta
   tested_back n e =
       record {
         balance = t.balance ∙ back_sound st n t.sized ∙ ap (λ (x : State). sound (view_of x.balance)) (sym e);
-        state = t.state ∙ sym (back_keeps st n t.sized) ∙ ap sound_state (sym e);
+        state = λ answer q. t.state answer q ∙ sym (back_keeps st n t.sized) ∙ ap sound_state (sym e);
         sized = record { kept = ap (λ (x : State). length x.kept) e ∙ back_stays st n ∙ t.sized.kept };
       }
 
@@ -87,9 +95,9 @@ pub refused_state : (st : State) (c : Call) (a : Answer) (x : Refusal) → a ≡
 refused_state st c a x e q = ap (with_current st) (sym (refused_keeps st.balance c x (sym e ∙ q)).0)
 
 -- Going back, by what was decided.
-module _ (test whole : Bool) (st : State) (t : Tested test whole st) (n : Name) (d : Result ℕ Refusal) (e : d ≡ back_decision whole (place_in st n)) where
+module _ (whole : Bool) (st : State) (t : whole ≡ sound_state st) (n : Name) (d : Result ℕ Refusal) (e : d ≡ back_decision whole (place_in st n)) where
   pub back_said : d ≡ back_decision (sound_state st) (place_in st n)
-  back_said = e ∙ ap (λ (u : Bool). back_decision u (place_in st n)) t.state
+  back_said = e ∙ ap (λ (u : Bool). back_decision u (place_in st n)) t
 
   pub back_by_decision : (x : Result ℕ Refusal) → d ≡ x → back_as st x ≡ back_reply st n
   back_by_decision x q = ap (back_as st) (sym q ∙ back_said) ∙ sym (back_decided st n)

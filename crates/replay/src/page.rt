@@ -1,6 +1,7 @@
 // The replies to the records of a journal, one record or one page of them at a time. The buffer is lent in its size: memory is fixed, and a slice
 // would need a clause about its room.
-ghost use Rattle.std.specs.Prelude.{◌≡◌, ◌≤◌};
+ghost use Rattle.std.specs.Prelude.{Bool, Some, ◌≡◌, ◌≤◌};
+ghost use Rattle.planning.specs.State.{sound_state};
 ghost use Rattle.planning.specs.Calls.{with_current};
 ghost use Rattle.replay.specs.Page as pages;
 
@@ -38,8 +39,38 @@ fn replayed(
     }
 }
 
+// The test for 0 of the whole state, the current balance standing apart from what is kept. It copies all balances, so it is made once.
+#[cold]
+#[inline(never)]
+fn sound_apart(kept: &State, balance: &Balance) -> bool
+    ensures { result ≡ sound_state (with_current kept.now balance.now) }
+{
+    planning::sound(&State {
+        balance: *balance,
+        ..*kept
+    })
+}
+
+// What that test gives, and from then on is known to give: no request changes it.
+#[inline(never)]
+fn whole_sound(known: &mut Option<bool>, kept: &State, balance: &Balance) -> bool
+    requires { (answer : Bool) → known.old ≡ Some answer → answer ≡ sound_state (with_current kept.now balance.now) }
+    ensures value { result ≡ sound_state (with_current kept.now balance.now) }
+    ensures known { known.new ≡ Some result }
+{
+    match *known {
+        Some(answer) => answer,
+        None => {
+            let answer = sound_apart(kept, balance);
+            *known = Some(answer);
+            answer
+        }
+    }
+}
+
 // The replies to at most so many records from an offset on, the first of them at place `first` among the records of its journal. The
 // current balance stands apart from what is kept, so that a call changes it alone: an accepted one takes as many instructions as in `balance`.
+// The whole state is tested for 0 at the first keeping or return, since calls need the test of the current balance alone.
 // It is a loop beside `listing::call_lines`, since the records are others and so is the state. A name's bytes are read once, where they are
 // needed: `RecordAt` has none. The count is a `usize` as `Replayed` has it, cast by `as u64`, since std has no `From` of it for `u64`. The four
 // values stay variables of this loop: a struct of them would be made and read here alone.
@@ -54,7 +85,7 @@ fn replies(
     requires { most ≤ pages.page_limit }
     ensures { pages.Replied (pages.page_of most first state s.now from) out.old out.new result }
 {
-    let whole = planning::sound(&state);
+    let mut whole: Option<bool> = None;
     let mut kept = state;
     let mut balance = state.balance;
     let sound = basin::sound(balance);
@@ -77,12 +108,14 @@ fn replies(
             }
             RecordAt::Keeps { to } => {
                 let name = requests::name_at(s, next + 2);
-                let answer = planning::keep_apart(&mut kept, balance, whole, name);
+                let tested = whole_sound(&mut whole, &kept, &balance);
+                let answer = planning::keep_apart(&mut kept, balance, tested, name);
                 (listing::answered(answer, Outcome::Kept), to)
             }
             RecordAt::Returns { to } => {
                 let name = requests::name_at(s, next + 2);
-                match decide_back(&kept, whole, name) {
+                let tested = whole_sound(&mut whole, &kept, &balance);
+                match decide_back(&kept, tested, name) {
                     Ok(place) => {
                         balance = kept.kept[place].balance;
                         (Outcome::Back, to)

@@ -3,6 +3,7 @@ use Prim.Native.Nat.{ℕ, ◌+◌, ◌<◌}
 use mathlib.Core.Path.{◌≡◌, refl, sym, ap, ◌∙◌}
 use mathlib.Core.Bool.{true, false}
 use native.Mathlib.Omega.{arith}
+use Rattle.std.proofs.lemmas.Option.{none-some}
 use Rattle.basin.proofs.Soundness.{soundness}
 use Rattle.register.proofs.Keeping.{accepted_from_sound}
 use Rattle.planning.specs.declared.Name.{Name}
@@ -21,7 +22,7 @@ use Rattle.replay.specs.Page.{kept_text, back_text, reply_text}
 use Rattle.replay.proofs.Records.{asked, keeps_onward, returns_onward}
 use Rattle.replay.proofs.Replaying.{Going, going_start, going_on, going_ends, going_fails, going_full, replied_so}
 use Rattle.planning.specs.declared.Reply.{Reply}
-use Rattle.replay.proofs.Steps.{back_said, back_by_decision, tested_call, tested_keep, tested_back, kept_line, refused_state}
+use Rattle.replay.proofs.Steps.{back_said, back_by_decision, tested_whole, tested_call, tested_keep, tested_back, kept_line, refused_state}
 use Rattle.replay.proofs.page.replies.Goals as goal
 use Rattle.replay.proofs.page.replies.Goals.{After-put, In-Ok-decide_back, in-Calls+in-Ok, in-Calls+in_default, in-Keeps, in-Returns+in-Ok-decide_back, in-Returns+in-Err}
 
@@ -29,7 +30,7 @@ pub loop-count-init : goal.loop-count-init
 loop-count-init c =
     record {
       going = going_start c.args.s.now c.args.from c.args.first c.args.most c.args.state c.new-page.result (omega arith);
-      tested = record { balance = c.sound-sound.ensures; state = c.sound-whole.ensures; sized = record { kept = omega arith } };
+      tested = record { balance = c.sound-sound.ensures; state = λ answer q. elim (none-some answer q) [ ]; sized = record { kept = omega arith } };
     }
 
 pub returns-in-End : goal.returns-in-End
@@ -70,7 +71,7 @@ name_at-name-requires-in-Returns c = omega (arith, returns_onward c.args.s.now c
 
 pub decide_back-requires : goal.decide_back-requires
 decide_back-requires c =
-    let cur = with_current c.loop-count.kept c.loop-count.balance in λ e. (standing cur (sym c.loop-count.invariant.tested.state ∙ e)).few
+    let cur = with_current c.loop-count.kept c.loop-count.balance in λ e. (standing cur (sym c.whole_sound-tested-in-Returns.ensures.value ∙ e)).few
 
 -- The place to go back to is one of the four.
 within : (c : In-Ok-decide_back) → c.in-Ok-decide_back.place < 4
@@ -78,7 +79,7 @@ within c =
     let loop = c.loop-count in
     let cur = with_current loop.kept loop.balance in
     let name = c.name_at-name-in-Returns.result in
-    to_within cur name _ (sym (back_said _ _ cur loop.invariant.tested name _ c.decide_back.ensures) ∙ c.in-Ok-decide_back.is)
+    to_within cur name _ (sym (back_said _ cur c.whole_sound-tested-in-Returns.ensures.value name _ c.decide_back.ensures) ∙ c.in-Ok-decide_back.is)
 
 pub offset_bounds-kept-place : goal.offset_bounds-kept-place
 offset_bounds-kept-place c = omega (arith, within (goal.at.offset_bounds-kept-place c).In-Ok-decide_back)
@@ -116,7 +117,7 @@ loop-count-preserved c =
           let call = w.in-Calls.call in
           let line = called_line k loop.balance call _ w.decide-answer.ensures in
           let next = ap (with_current loop.kept) w.perform-balance.ensures.value in
-          rw (w.kept-is, w.balance-is, w.outcome-is)
+          rw (w.whole-is, w.kept-is, w.balance-is, w.outcome-is)
           (record {
             going = on c (ask call) _ (asking _ w.in-Calls.ensures) _ (ap (λ (p : Outcome × ℕ). p.0) w.outcome-is ∙ w.called-outcome.ensures) line _ next;
             tested = tested_call _ _ cur tested _ call next w.perform-balance.ensures.b_value;
@@ -125,7 +126,7 @@ loop-count-preserved c =
           let call = w.in-Calls.call in
           let line = called_line k loop.balance call _ w.decide-answer.ensures in
           let next = refused_state cur call _ _ w.decide-answer.ensures w.in_default.is in
-          rw (w.kept-is, w.balance-is, w.outcome-is)
+          rw (w.whole-is, w.kept-is, w.balance-is, w.outcome-is)
           (record {
             going = on c (ask call) _ (asking _ w.in-Calls.ensures) _ (ap (λ (p : Outcome × ℕ). p.0) w.outcome-is ∙ w.called-outcome.ensures) line _ next;
             tested = tested;
@@ -135,32 +136,32 @@ loop-count-preserved c =
           let kept = w.keep_apart-answer.ensures in
           let request = asking _ w.in-Keeps.ensures ∙ ap (λ (n : Name). asks (keep n) w.in-Keeps.to) (sym w.name_at-name.ensures) in
           let line = kept_line k w.keep_apart-answer.result ∙ ap (kept_text k) kept.answer in
-          rw (w.kept-is, w.balance-is, w.outcome-is)
+          rw (w.whole-is, w.kept-is, w.balance-is, w.outcome-is)
           (record {
             going = on c (keep name) _ request _ (ap (λ (p : Outcome × ℕ). p.0) w.outcome-is ∙ w.answered.ensures) line _ kept.state;
-            tested = tested_keep _ _ cur tested _ name kept.state;
+            tested = tested_keep _ _ cur (tested_whole _ _ cur tested _ _ w.whole_sound-tested.ensures.known w.whole_sound-tested.ensures.value) _ name kept.state;
           })
       | in-Returns+in-Ok-decide_back w ↦
           let name = w.name_at-name-in-Returns.result in
           let request = asking _ w.in-Returns.ensures ∙ ap (λ (n : Name). asks (back n) w.in-Returns.to) (sym w.name_at-name-in-Returns.ensures) in
-          let done = back_by_decision _ _ cur tested name _ w.decide_back.ensures _ w.in-Ok-decide_back.is in
+          let done = back_by_decision _ cur w.whole_sound-tested-in-Returns.ensures.value name _ w.decide_back.ensures _ w.in-Ok-decide_back.is in
           let line = ap (λ (r : Reply). back_text k r.answer) done in
           let next = ap (λ (r : Reply). r.state) done in
-          rw (w.kept-is, w.balance-is, w.outcome-is)
+          rw (w.whole-is, w.kept-is, w.balance-is, w.outcome-is)
           (record {
             going = on c (back name) _ request _ (ap (λ (p : Outcome × ℕ). p.0) w.outcome-is) line _ next;
-            tested = tested_back _ _ cur tested _ name next;
+            tested = tested_back _ _ cur (tested_whole _ _ cur tested _ _ w.whole_sound-tested-in-Returns.ensures.known w.whole_sound-tested-in-Returns.ensures.value) _ name next;
           })
       | in-Returns+in-Err w ↦
           let name = w.name_at-name-in-Returns.result in
           let request = asking _ w.in-Returns.ensures ∙ ap (λ (n : Name). asks (back n) w.in-Returns.to) (sym w.name_at-name-in-Returns.ensures) in
-          let done = back_by_decision _ _ cur tested name _ w.decide_back.ensures _ w.in-Err.is in
+          let done = back_by_decision _ cur w.whole_sound-tested-in-Returns.ensures.value name _ w.decide_back.ensures _ w.in-Err.is in
           let line = ap (λ (r : Reply). back_text k r.answer) done in
           let next = ap (λ (r : Reply). r.state) done in
-          rw (w.kept-is, w.balance-is, w.outcome-is)
+          rw (w.whole-is, w.kept-is, w.balance-is, w.outcome-is)
           (record {
             going = on c (back name) _ request _ (ap (λ (p : Outcome × ℕ). p.0) w.outcome-is ∙ w.refused.ensures) line _ next;
-            tested = tested;
+            tested = tested_whole _ _ cur tested _ _ w.whole_sound-tested-in-Returns.ensures.known w.whole_sound-tested-in-Returns.ensures.value;
           })
     ]
 
