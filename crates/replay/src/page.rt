@@ -51,7 +51,7 @@ fn sound_apart(kept: &State, balance: &Balance) -> bool
     })
 }
 
-// What that test gives, and from then on is known to give: no request changes it.
+// What that test gives, and from then on is known to give: no request changes it. In line it would make a keeping dearer.
 #[inline(never)]
 fn whole_sound(known: &mut Option<bool>, kept: &State, balance: &Balance) -> bool
     requires { (answer : Bool) → known.old ≡ Some answer → answer ≡ sound_state (with_current kept.now balance.now) }
