@@ -160,14 +160,8 @@ fn fast_once(operation: Operation, plans: &mut Plans, name: Name) -> bool {
             matches!(reply, register::Reply::Refused(_))
         }
         Operation::Record => {
-            let faulty = fast::plans_faulty(plans);
-            let text = fast::next_call(CANCELLING_NOTHING, 0).map(|(call, _)| {
-                let reply = match faulty {
-                    true => fast::apply(&mut plans.current, &call),
-                    false => fast::apply_untested(&mut plans.current, &call),
-                };
-                report::call(1, &reply)
-            });
+            let text = fast::next_call(CANCELLING_NOTHING, 0)
+                .map(|(call, _)| report::call(1, &fast::apply(&mut plans.current, &call)));
             black_box(text).is_ok()
         }
     }
