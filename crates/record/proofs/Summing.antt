@@ -9,6 +9,7 @@ use Rattle.laws.specs.Signed.{above, below}
 use Rattle.runoff.specs.declared.Measure.{Measure}
 use Rattle.runoff.specs.declared.Plot.{Plot}
 use Rattle.runoff.specs.Record.{Year, of_rain, of_gauge, area_of, weighted_of, rain_of, year_gives, years_sum, sum_on}
+use Rattle.runoff.specs.Walk.{walked, no_soils}
 use Rattle.runoff.proofs.Record.{area_of_more, weighted_of_more, years_sum_more}
 use Rattle.record.specs.Record.{unit_record, with_sums, with_soil, with_year, gauge_of, no_sums}
 use Rattle.record.specs.Described.{DescribedUnit, unit_at, plot_at, rain_at, gauged_at, with_records, add_plot, add_year, no_unit, summed}
@@ -38,6 +39,13 @@ pub summed_plot : (u : DescribedUnit) (p : Plot) → length u.years ≡ 0
 summed_plot u p e = λ i.
     with_sums (summed u) (one_more u.plots p i) (area_of_more u.plots p i) (weighted_of_more u.plots p i) (length u.years)
     (no_years (area_of (u.plots ++ (p ∷ []))) (weighted_of (u.plots ++ (p ∷ []))) (area_of u.plots) (weighted_of u.plots) u.years e i)
+
+-- The two sums that are read of a unit, record by record, are those of one walk over all its soil records.
+pub summed_walk : (u : DescribedUnit) → walked no_soils u.plots ≡ record { area = (summed u).hectares; weighted = (summed u).weighted }
+summed_walk u = λ i. record { area = from_none (area_of u.plots) i; weighted = from_none (weighted_of u.plots) i }
+  where
+    from_none : (n : ℕ) → 0 + n ≡ n
+    from_none n = omega arith
 
 pub summed_year : (u : DescribedUnit) (y : Year)
     → summed (add_year u y) ≡ with_year (summed u) (year_gives (area_of u.plots) (weighted_of u.plots) y)

@@ -8,7 +8,7 @@ ghost use Rattle.record.specs.Fault.{Sane, Closed, YearRange};
 use crate::bytes::{bits8, bits32, signed_bits32};
 use crate::{CallMark, Mark, UnitRecord};
 use model::{Aquifer, Unit};
-use runoff::{Gauged, Plot, Years};
+use runoff::{Gauged, Plot, Soils, Years};
 
 // The call that two bytes are the mark of, if they are.
 pub(crate) fn call_mark(a: u8, b: u8) -> Option<CallMark>
@@ -102,19 +102,22 @@ pub fn gauged_record(s: &[u8], i: usize) -> Gauged
     }
 }
 
-// The unit with a soil record in. Here and of a year more, `Sane` stays a clause: as an invariant of `UnitRecord` it would ask more of callers
-// of the faults, which take any unit.
+// The unit with a soil record in: the walk over its soil records goes on from its two sums. Here and of a year more, `Sane` stays a clause: as an
+// invariant of `UnitRecord` it would ask more of callers of the faults, which take any unit.
 pub fn with_soil(u: UnitRecord, plot: &Plot) -> UnitRecord
     requires sane { Sane u }
     requires known { Known plot.now.cover plot.now.soil }
     ensures { result ≡ records.with_soil u plot.now.cover plot.now.soil plot.now.hectares }
 {
-    let area = u64::from(plot.hectares);
-    let weighted = area * plot.coefficient();
+    let read = Soils {
+        area: u.hectares,
+        weighted: u.weighted,
+    };
+    let soils = read.walk(&[*plot]);
     UnitRecord {
         soils: u.soils + 1,
-        hectares: u.hectares + area,
-        weighted: u.weighted + weighted,
+        hectares: soils.area,
+        weighted: soils.weighted,
         ..u
     }
 }

@@ -3,3 +3,4 @@ pub mod RainBounds
 pub mod GaugedParts
 pub mod Rounding
 pub mod Record
+pub mod Walking

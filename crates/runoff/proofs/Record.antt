@@ -22,16 +22,25 @@ pub weighted_within : (cover soil hectares : ℕ) → Known cover soil → weigh
 weighted_within cover soil hectares k =
     omega (arith, mul-le-mul_left hectares (coefficient_within cover soil k).1)
 
+-- Hectares and the weighted sum of records behind others, and of one behind others.
+pub area_of_append : (ps qs : List Plot) → area_of (ps ++ qs) ≡ area_of ps + area_of qs
+unfolding area_of
+area_of_append [] qs = omega arith
+area_of_append (p ∷ ps) qs = omega (arith, area_of_append ps qs)
+
+pub weighted_of_append : (ps qs : List Plot) → weighted_of (ps ++ qs) ≡ weighted_of ps + weighted_of qs
+unfolding weighted_of
+weighted_of_append [] qs = omega arith
+weighted_of_append (p ∷ ps) qs = omega (arith, weighted_of_append ps qs)
+
 pub area_of_more : (ps : List Plot) (p : Plot) → area_of (ps ++ (p ∷ [])) ≡ area_of ps + p.hectares
 unfolding area_of
-area_of_more [] p = omega arith
-area_of_more (q ∷ ps) p = omega (arith, area_of_more ps p)
+area_of_more ps p = omega (arith, area_of_append ps (p ∷ []))
 
 pub weighted_of_more : (ps : List Plot) (p : Plot)
     → weighted_of (ps ++ (p ∷ [])) ≡ weighted_of ps + weighted p.cover p.soil p.hectares
 unfolding weighted_of
-weighted_of_more [] p = omega arith
-weighted_of_more (q ∷ ps) p = omega (arith, weighted_of_more ps p)
+weighted_of_more ps p = omega (arith, weighted_of_append ps (p ∷ []))
 
 pub years_sum_more : (A S : ℕ) (years : List Year) (y : Year) → years_sum A S (years ++ (y ∷ [])) ≡ years_sum A S years +ℤ year_gives A S y
 unfolding years_sum

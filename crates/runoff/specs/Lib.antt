@@ -3,3 +3,4 @@ pub mod Soil
 pub mod Year
 pub mod Mean
 pub mod Record
+pub mod Walk

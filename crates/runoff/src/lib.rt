@@ -3,6 +3,7 @@
 
 ghost use Rattle.std.specs.Prelude.{◌≡◌, ◌-◌, ◌≤◌, ◌<◌};
 ghost use Rattle.runoff.specs.Soil.{Known, Tabled};
+ghost use Rattle.runoff.specs.Walk.{Walkable, walked};
 ghost use Rattle.runoff.specs.Year as year;
 ghost use Rattle.runoff.specs.Year.{RainRange, StorageRange};
 ghost use Rattle.runoff.specs.Mean.{Divides, MeanRange};
@@ -83,6 +84,20 @@ pub struct Soils {
 }
 
 impl Soils {
+    // One walk over soil records, going on from these two sums, gives both sums.
+    pub fn walk(self, plots: &[Plot]) -> Soils
+        requires { Walkable self plots.now }
+        ensures { result ≡ walked self plots.now }
+    {
+        let mut soils = self;
+        for plot in plots {
+            let hectares = u64::from(plot.hectares);
+            soils.area += hectares;
+            soils.weighted += hectares * plot.coefficient();
+        }
+        soils
+    }
+
     // A rain year of p tenths gives p × 3 × S × (p − 2500), and where S exceeds 15 × A also p × 40,000 × (S − 15 × A), in
     // 6,000,000,000ths. The second part stays a branch: with saturating_sub in its place opening a book of rain takes a third more instructions,
     // which misses the bar of 1.5 times the fast model.
