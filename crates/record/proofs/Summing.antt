@@ -1,6 +1,6 @@
 -- The sums that are kept of the open unit are those of its records: one record more is one record more in the sums. Assumes nothing.
 use Prim.Native.Nat.{ℕ, ◌+◌}
-use mathlib.Core.Path.{◌≡◌, refl, ap}
+use mathlib.Core.Path.{◌≡◌, refl, sym, ap, ◌∙◌}
 use mathlib.Core.List.{List, [], ◌∷◌, ◌++◌}
 use lib.IntN.{pos}
 use lib.ListN.{length, length-append}
@@ -9,9 +9,12 @@ use Rattle.laws.specs.Signed.{above, below}
 use Rattle.runoff.specs.declared.Measure.{Measure}
 use Rattle.runoff.specs.declared.Plot.{Plot}
 use Rattle.runoff.specs.Record.{Year, of_rain, of_gauge, area_of, weighted_of, rain_of, year_gives, years_sum, sum_on}
-use Rattle.runoff.specs.Walk.{walked, no_soils}
+use Rattle.runoff.specs.Walk.{walked}
+use Rattle.runoff.specs.declared.Soils.{Soils}
+use Rattle.runoff.proofs.Walking.{walked_none, walked_one, walked_append}
+use Rattle.record.specs.declared.UnitRecord.{UnitRecord}
 use Rattle.runoff.proofs.Record.{area_of_more, weighted_of_more, years_sum_more}
-use Rattle.record.specs.Record.{unit_record, with_sums, with_soil, with_year, gauge_of, no_sums}
+use Rattle.record.specs.Record.{unit_record, with_sums, with_soil, with_soils, soils_of, with_year, gauge_of, no_sums}
 use Rattle.record.specs.Described.{DescribedUnit, unit_at, plot_at, rain_at, gauged_at, with_records, add_plot, add_year, no_unit, summed}
 use Rattle.record.specs.Bytes.{bits8, bits32}
 use Rattle.record.specs.Fault.{Sane}
@@ -40,12 +43,13 @@ summed_plot u p e = λ i.
     with_sums (summed u) (one_more u.plots p i) (area_of_more u.plots p i) (weighted_of_more u.plots p i) (length u.years)
     (no_years (area_of (u.plots ++ (p ∷ []))) (weighted_of (u.plots ++ (p ∷ []))) (area_of u.plots) (weighted_of u.plots) u.years e i)
 
--- The two sums that are read of a unit, record by record, are those of one walk over all its soil records.
-pub summed_walk : (u : DescribedUnit) → walked no_soils u.plots ≡ record { area = (summed u).hectares; weighted = (summed u).weighted }
-summed_walk u = λ i. record { area = from_none (area_of u.plots) i; weighted = from_none (weighted_of u.plots) i }
-  where
-    from_none : (n : ℕ) → 0 + n ≡ n
-    from_none n = omega arith
+-- Soil records read one after another, each from the two sums that the one before left, leave the two sums of one walk over them all.
+pub reading_walks : (u : UnitRecord) (plots : List Plot) → soils_of (with_soils u plots) ≡ walked (soils_of u) plots
+unfolding with_soils
+reading_walks u [] = sym (walked_none (soils_of u))
+reading_walks u (p ∷ plots) =
+    reading_walks (with_soil u p.cover p.soil p.hectares) plots
+    ∙ ap (λ (s : Soils). walked s plots) (sym (walked_one (soils_of u) p)) ∙ walked_append (soils_of u) (p ∷ []) plots
 
 pub summed_year : (u : DescribedUnit) (y : Year)
     → summed (add_year u y) ≡ with_year (summed u) (year_gives (area_of u.plots) (weighted_of u.plots) y)

@@ -1,6 +1,8 @@
 -- The marks of a book and the records of a description (document 01, "The book"; document 02 [1] and [2]). Assumes nothing.
-use Rattle.std.specs.Prelude.{ℕ, ◌+◌, Bool, cond, ◌&&◌, List, eqb, ℤ, pos, ◌+ℤ◌, Option, Some, None, is_some}
+use Rattle.std.specs.Prelude.{ℕ, ◌+◌, Bool, cond, ◌&&◌, List, [], ◌∷◌, eqb, ℤ, pos, ◌+ℤ◌, Option, Some, None, is_some}
 use Rattle.runoff.specs.Soil.{weighted}
+use Rattle.runoff.specs.declared.Plot.{Plot}
+use Rattle.runoff.specs.declared.Soils.{Soils}
 use Rattle.runoff.specs.Year.{gauged_year}
 use Rattle.runoff.specs.Mean.{natural_runoff}
 use Rattle.model.specs.declared.Unit.{Unit}
@@ -83,11 +85,21 @@ with_sums u soils hectares weighted years sum =
       sum = sum;
     }
 
--- The sums with one soil record more, and with one year more, of so much water.
+-- The sums with one soil record more.
 abbrev pub with_soil : UnitRecord → ℕ → ℕ → ℕ → UnitRecord
 with_soil u cover soil hectares =
     with_sums u (u.soils + 1) (u.hectares + hectares) (u.weighted + weighted cover soil hectares) u.years u.sum
 
+-- The sums with soil records more, read one after another.
+unfoldable pub with_soils : UnitRecord → List Plot → UnitRecord
+with_soils u [] = u
+with_soils u (p ∷ plots) = with_soils (with_soil u p.cover p.soil p.hectares) plots
+
+-- The two sums of the soil records.
+abbrev pub soils_of : UnitRecord → Soils
+soils_of u = record { area = u.hectares; weighted = u.weighted }
+
+-- The sums with one year more, of so much water.
 abbrev pub with_year : UnitRecord → ℤ → UnitRecord
 with_year u year = with_sums u u.soils u.hectares u.weighted (u.years + 1) (u.sum +ℤ year)
 

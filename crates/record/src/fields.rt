@@ -109,11 +109,11 @@ pub fn with_soil(u: UnitRecord, plot: &Plot) -> UnitRecord
     requires known { Known plot.now.cover plot.now.soil }
     ensures { result ≡ records.with_soil u plot.now.cover plot.now.soil plot.now.hectares }
 {
-    let read = Soils {
+    let so_far = Soils {
         area: u.hectares,
         weighted: u.weighted,
     };
-    let soils = read.walk(&[*plot]);
+    let soils = so_far.walk(&[*plot]);
     UnitRecord {
         soils: u.soils + 1,
         hectares: soils.area,

@@ -5,7 +5,7 @@ use Rattle.runoff.specs.Record.{area_of, weighted_of}
 use Rattle.runoff.specs.declared.Plot.{Plot}
 use Rattle.runoff.specs.declared.Soils.{Soils}
 
--- A walk over soil records that goes on from two sums gives both together, each the sum worked alone.
+-- A walk over soil records goes on from two sums and adds to each the records' sum worked alone.
 abbrev pub walked : Soils → List Plot → Soils
 walked soils plots = record { area = soils.area + area_of plots; weighted = soils.weighted + weighted_of plots }
 
@@ -17,9 +17,8 @@ no_soils = record { area = 0; weighted = 0 }
 abbrev pub taken_up : ℕ → Soils → List Plot → Soils
 taken_up k soils plots = walked (walked soils (take k plots)) (drop k plots)
 
--- What a walk goes over: covers and soils that the table has, from a weighted sum of at most 33 times the hectares on, and so few records that 64
--- bits hold both sums, whatever their hectares.
+-- What a walk asks: covers and soils that the table has, and room in 64 bits for 2 ^ 32 hectares more with each record.
 pub record Walkable (soils : Soils) (plots : List Plot) : Type 0 where
   pub known : All (λ p. Known p.cover p.soil) plots
-  pub weight : soils.weighted ≤ 33 * soils.area
-  pub room : soils.area + 2 ^ 32 * length plots ≤ 2 ^ 58
+  pub area : soils.area + 2 ^ 32 * length plots ≤ 2 ^ 63
+  pub weighted : soils.weighted + 33 * 2 ^ 32 * length plots ≤ 2 ^ 63

@@ -15,7 +15,7 @@ most : (h k : ℕ) → k ≤ 33 → h * k ≤ 33 * h
 most h k l = omega (arith, mul-le-mul_left h l)
 
 pub loop-plot-init : goal.loop-plot-init
-loop-plot-init c = record { sums = sym (walked_none c.args.self); weight = c.requires.weight; room = omega arith }
+loop-plot-init c = record { sums = sym (walked_none c.args.self); area = omega arith; weighted = omega arith }
 
 pub overflow_add-soils-in-loop-plot : goal.overflow_add-soils-in-loop-plot
 overflow_add-soils-in-loop-plot c = omega (arith, most c.from-hectares.result c.coefficient.result c.coefficient.ensures.most)
@@ -29,8 +29,8 @@ loop-plot-preserved c =
             weighted = (c.loop-plot.invariant.sums i).weighted + c.from-hectares.ensures i * c.coefficient.ensures.entry i;
           })
           ∙ sym (walked_one _ _) ∙ sym (walked_more c.args.self c.args.plots.now c.loop-plot.plot-index none c.loop-plot-test.true);
-      weight = omega (arith, most c.from-hectares.result c.coefficient.result c.coefficient.ensures.most);
-      room = omega arith;
+      area = omega arith;
+      weighted = omega (arith, most c.from-hectares.result c.coefficient.result c.coefficient.ensures.most);
     }
 
 pub returns : goal.returns

@@ -7,6 +7,6 @@ abbrev pub invariant-loop-plot : goal.invariant-loop-plot
 invariant-loop-plot l =
     record {
       sums : l.soils ≡ walked l.fn.self (take l.plot-index l.plots);
-      weight : l.soils.weighted ≤ 33 * l.soils.area;
-      room : l.soils.area ≤ l.fn.self.area + 2 ^ 32 * l.plot-index;
+      area : l.soils.area ≤ l.fn.self.area + 2 ^ 32 * l.plot-index;
+      weighted : l.soils.weighted ≤ l.fn.self.weighted + 33 * 2 ^ 32 * l.plot-index;
     }
