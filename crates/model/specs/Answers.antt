@@ -1,7 +1,7 @@
 -- Answers, and the number of each refusal. Assumes nothing.
 use Rattle.std.specs.Prelude.{ℕ, zero, suc, Bool, cond, true, false, Option, Some, None, Result, Ok, Err}
 use Rattle.model.specs.declared.Refusal.{Refusal}
-use Rattle.model.specs.declared.Refusal.TheVariants.{Unsound, Short, UnknownMark, OutOfSequence, TooMany, OutsideValues, FewYears, LargeUnit, BadDownstream, BadGauge, NegativeFlow, NegativeRecharge, NoSuchPlace, NoSuchUse, BadVolume, NumbersGiven, EntryFull, NoWater, ReceiverBelow, NotInForce, FlowNeeded, TooLong, FifthName, NoSuchName}
+use Rattle.model.specs.declared.Refusal.TheVariants.{Unsound, Short, UnknownMark, OutOfSequence, TooMany, OutsideValues, FewYears, LargeUnit, BadDownstream, BadGauge, NegativeFlow, NegativeRecharge, NoSuchPlace, NoSuchUse, BadVolume, NumbersGiven, EntryFull, NoWater, ReceiverBelow, NotInForce, FlowNeeded, TooLong, FifthName, NoSuchName, BadWindow}
 
 -- The number under which each refusal is listed and printed.
 abbrev pub number : Refusal → ℕ
@@ -29,6 +29,7 @@ number FlowNeeded = 20
 number TooLong = 21
 number FifthName = 22
 number NoSuchName = 23
+number BadWindow = 24
 
 -- An answer: accepted, or refused.
 abbrev pub Answer : Type 0

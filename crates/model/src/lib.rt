@@ -130,6 +130,8 @@ pub enum Refusal {
     // A fifth name.
     FifthName = 22,
     NoSuchName = 23,
+    // A window outside 20 to 50 years or longer than its record, or a record above 200 years.
+    BadWindow = 24,
 }
 
 // The answer of opening and of a call: accepted, or refused.
@@ -159,7 +161,7 @@ impl Title {
 
 impl Refusal {
     // The number that the paper gives the refusal.
-    // The cast reads the variants' own numbers: a `match` of 24 arms would list them a second time.
+    // The cast reads the variants' own numbers: a `match` of 25 arms would list them a second time.
     pub fn number(self) -> u8
         ensures { result ≡ answers.number self }
     {

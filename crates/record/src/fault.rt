@@ -68,7 +68,7 @@ pub fn unit_fault(p: &Progress, u: UnitRecord) -> Answer
 }
 
 // A field of an SU outside its values.
-fn soil_outside(plot: &Plot) -> bool
+pub fn soil_outside(plot: &Plot) -> bool
     ensures { result ≡ faults.soil_outside plot.now.cover plot.now.soil plot.now.hectares }
 {
     !(1..=14).contains(&plot.cover)
@@ -98,7 +98,7 @@ pub fn soil_fault(p: &Progress, plot: &Plot) -> Answer
 }
 
 // A year's rain in tenths outside its values.
-fn rain_outside(tenths: u64) -> bool
+pub fn rain_outside(tenths: u64) -> bool
     ensures { result ≡ faults.rain_outside Tenths tenths }
 {
     !(3500..=21500).contains(&tenths)

@@ -11,7 +11,10 @@ mod fields;
 
 pub use bytes::{bits8, bits16, bits32, signed_bits32};
 pub use calls::call_at;
-pub use fault::{aquifer_fault, closing_fault, gauge_fault, rain_fault, soil_fault, unit_fault};
+pub use fault::{
+    aquifer_fault, closing_fault, gauge_fault, rain_fault, rain_outside, soil_fault, soil_outside,
+    unit_fault,
+};
 pub use fields::{
     aquifer_record, gauged_record, mark_of, soil_record, unit_of, unit_record, with_soil, with_year,
 };

@@ -12,7 +12,7 @@ use borrow.Author.Tests.{eqb-true}
 use Rattle.laws.proofs.Cases.{by_bool, by_lt}
 use Rattle.laws.proofs.Every.{both}
 use Rattle.model.specs.declared.Refusal.{Refusal}
-use Rattle.model.specs.declared.Refusal.TheVariants.{Short, UnknownMark, BadDownstream, NegativeFlow, OutOfSequence, TooMany, OutsideValues, FewYears, LargeUnit, BadGauge, NegativeRecharge, Unsound, NoSuchPlace, NoSuchUse, BadVolume, NumbersGiven, EntryFull, NoWater, ReceiverBelow, NotInForce, FlowNeeded, TooLong, FifthName, NoSuchName}
+use Rattle.model.specs.declared.Refusal.TheVariants.{Short, UnknownMark, BadDownstream, NegativeFlow, OutOfSequence, TooMany, OutsideValues, FewYears, LargeUnit, BadGauge, NegativeRecharge, Unsound, NoSuchPlace, NoSuchUse, BadVolume, NumbersGiven, EntryFull, NoWater, ReceiverBelow, NotInForce, FlowNeeded, TooLong, FifthName, NoSuchName, BadWindow}
 use Rattle.model.specs.declared.Aquifer.{Aquifer}
 use Rattle.figures.specs.Recharge.{is_recharged}
 use Rattle.runoff.specs.Record.{Year, of_rain, of_gauge}
@@ -272,6 +272,7 @@ is_unknown FlowNeeded e = absurd (omega arith)
 is_unknown TooLong e = absurd (omega arith)
 is_unknown FifthName e = absurd (omega arith)
 is_unknown NoSuchName e = absurd (omega arith)
+is_unknown BadWindow e = absurd (omega arith)
 
 -- An opening that is refused with 2 comes from a reading that is refused with 2 at its place.
 unknown_refused : (o : Outcome) → unknown (opened_as o).answer ≡ true → o ≡ refused UnknownMark (opened_as o).place

@@ -1,0 +1,51 @@
+// The window moves on by the year that enters and the year that leaves.
+ghost use Rattle.std.specs.Prelude.{◌≡◌, ◌≤◌, ◌<◌, ◌*◌, length};
+ghost use Rattle.window.specs.Moving as moving;
+ghost use Rattle.window.specs.Moving.{Movable, Yielding};
+
+use crate::Windows;
+use runoff::{Soils, Years};
+
+// The sum of rain years, in 6,000,000,000ths.
+fn sum_of(soils: Soils, tenths: &[u16]) -> u64
+    requires yielding { Yielding soils tenths.now }
+    requires few { length tenths.now ≤ 50 }
+    ensures { result ≡ moving.years_on soils tenths.now }
+{
+    let mut sum = 0;
+    for year in tenths {
+        sum += soils.rain_year(u64::from(*year));
+    }
+    sum
+}
+
+// The mean of so many rain years with this sum.
+fn mean(width: usize, sum: u64) -> u32
+    requires years { (0 < width) × (width ≤ 50) }
+    requires within { sum ≤ 60000000000000000 * width }
+    ensures { result ≡ moving.mean_of width sum }
+{
+    let years = Years {
+        gauged: false,
+        count: width as u64,
+        sum: sum.cast_signed(),
+    };
+    years.natural_runoff() as u32
+}
+
+// The means of all windows: the first is summed afresh, each other one is the one before with the year that enters and without the year that leaves.
+pub(crate) fn means(soils: Soils, tenths: &[u16], width: usize) -> [u32; Windows::PLACES]
+    requires { Movable soils tenths.now width }
+    ensures { result ≡ moving.means_of soils tenths.now width }
+{
+    let mut means = [0; Windows::PLACES];
+    let mut sum = sum_of(soils, &tenths[..width]);
+    means[0] = mean(width, sum);
+    for first in 1..=tenths.len() - width {
+        let enters = soils.rain_year(u64::from(tenths[first + width - 1]));
+        let leaves = soils.rain_year(u64::from(tenths[first - 1]));
+        sum = sum + enters - leaves;
+        means[first] = mean(width, sum);
+    }
+    means
+}
