@@ -49,3 +49,11 @@ call_kept k = line (ascii "call") (decimal k ∷ ascii "kept" ∷ [])
 -- `call K back`: the call's place among the calls.
 unfoldable pub call_back : ℕ → List ℕ
 call_back k = line (ascii "call") (decimal k ∷ ascii "back" ∷ [])
+
+-- `call K windows C`: the call's place among the calls and the number of windows.
+unfoldable pub call_windows : ℕ → ℕ → List ℕ
+call_windows k n = call_line k (ascii "windows") n
+
+-- `window I R`: the window's place, the oldest first, and its natural runoff.
+unfoldable pub window_line : ℕ → ℕ → List ℕ
+window_line number runoff = line (ascii "window") (decimal number ∷ decimal runoff ∷ [])

@@ -1,11 +1,11 @@
-// The lines that the program prints: words and whole numbers, of at most 128 bytes, a call's line of at most 64. That the page has room is asked at
+// The lines that the program prints: words and whole numbers, of at most 128 bytes, a call's and a window's line of at most 64. That the page has room is asked at
 // each line and not by a type, which would hold it for one length only.
 #![tactic(auto)]
 
 ghost use Rattle.std.specs.Prelude.{map, ◌++◌};
 ghost use Rattle.text.specs.Page.{Fits, Puts};
 ghost use Rattle.text.specs.Text.{ascii};
-ghost use Rattle.report.specs.Lines.{line, unit_line, aquifer_line, refused_line};
+ghost use Rattle.report.specs.Lines.{line, unit_line, aquifer_line, refused_line, window_line};
 ghost use Rattle.report.specs.Parts.{part_text, part_room, line_room};
 ghost use Rattle.report.specs.Calls.{outcome_line};
 
@@ -137,7 +137,7 @@ impl RefusedLine {
     }
 }
 
-// What a call, a keeping or a return came to: a title given or cancelled, by its number, a refusal, by its number, or a balance kept or gone back to.
+// What a request came to: a title given or cancelled, by its number, a refusal, by its number, a balance kept or gone back to, or so many windows.
 #[derive(Clone, Copy)]
 pub enum Outcome {
     Given(u64),
@@ -145,6 +145,7 @@ pub enum Outcome {
     Cancelled(u64),
     Kept,
     Back,
+    Windows(u64),
 }
 
 // `call K O`: the call's place among the calls, and its outcome.
@@ -155,7 +156,7 @@ pub struct CallLine {
 }
 
 impl CallLine {
-    #[tactic(auto, unfolding(crate::specs::Lines::call_given, crate::specs::Lines::call_refused, crate::specs::Lines::call_cancelled, crate::specs::Lines::call_kept, crate::specs::Lines::call_back))]
+    #[tactic(auto, unfolding(crate::specs::Lines::call_given, crate::specs::Lines::call_refused, crate::specs::Lines::call_cancelled, crate::specs::Lines::call_kept, crate::specs::Lines::call_back, crate::specs::Lines::call_windows))]
     pub fn put(self, page: &mut Page)
         requires { Fits 64 page.old }
         ensures { Puts 64 page.old (outcome_line self.call self.outcome) page.new }
@@ -179,6 +180,32 @@ impl CallLine {
             ),
             Outcome::Kept => line(page, b"call", &[call, Part::Word(b"kept")]),
             Outcome::Back => line(page, b"call", &[call, Part::Word(b"back")]),
+            Outcome::Windows(count) => line(
+                page,
+                b"call",
+                &[call, Part::Word(b"windows"), Part::Number(count)],
+            ),
         }
+    }
+}
+
+// `window I R`: the window's place and its natural runoff.
+#[derive(Clone, Copy)]
+pub struct WindowLine {
+    pub number: u64,
+    pub runoff: u64,
+}
+
+impl WindowLine {
+    #[tactic(auto, unfolding(crate::specs::Lines::window_line))]
+    pub fn put(self, page: &mut Page)
+        requires { Fits 64 page.old }
+        ensures { Puts 64 page.old (window_line self.number self.runoff) page.new }
+    {
+        line(
+            page,
+            b"window",
+            &[Part::Number(self.number), Part::Number(self.runoff)],
+        );
     }
 }

@@ -1,5 +1,5 @@
 -- The records of a journal after its description: the calls of a book, KP (keep under a name) and GB (go back to a name), the name eight
--- bytes. Assumes nothing.
+-- bytes, and WI (the moving window). Assumes nothing.
 use Rattle.std.specs.Prelude.{ℕ, ◌+◌, ◌-◌, cond, List, ltb, length, take, drop, Option, Some, None}
 use Rattle.model.specs.declared.Refusal.{Refusal}
 use Rattle.model.specs.declared.Refusal.TheVariants.{Short}
@@ -10,14 +10,15 @@ use Rattle.record.specs.Record.{spells}
 use Rattle.record.specs.Calls.{call_at}
 use Rattle.planning.specs.declared.Name.{Name}
 use Rattle.planning.specs.Names.{name_length}
+use Rattle.requests.specs.Watched.{window_size}
 use Rattle.requests.specs.declared.OwnMark.{OwnMark}
-use Rattle.requests.specs.declared.OwnMark.TheVariants.{Kp, Gb}
+use Rattle.requests.specs.declared.OwnMark.TheVariants.{Kp, Gb, Wi}
 use Rattle.requests.specs.declared.RecordAt.{RecordAt}
-use Rattle.requests.specs.declared.RecordAt.TheVariants.{End, Fails, Calls, Keeps, Returns}
+use Rattle.requests.specs.declared.RecordAt.TheVariants.{End, Fails, Calls, Keeps, Returns, Watches}
 
--- The marks of a journal alone, in ASCII: KP, GB.
+-- The marks of a journal alone, in ASCII: KP, GB, WI.
 abbrev pub own_mark : ℕ → ℕ → Option OwnMark
-own_mark a b = cond (spells a b 75 80) (Some Kp) (cond (spells a b 71 66) (Some Gb) None)
+own_mark a b = cond (spells a b 75 80) (Some Kp) (cond (spells a b 71 66) (Some Gb) (cond (spells a b 87 73) (Some Wi) None))
 
 -- The mark of a journal alone at an offset: two bytes that are one.
 abbrev pub own_at : List ℕ → ℕ → Option OwnMark
@@ -31,10 +32,21 @@ name_at s at = record { bytes = take name_length (drop at s) }
 abbrev pub whole_record : List ℕ → ℕ → ℕ → (ℕ → RecordAt) → RecordAt
 whole_record s at size go = cond (ltb (length s - at) size) (Fails Short) (go (at + size))
 
--- KP and GB have ten bytes. Any other record fails as the calls of a book say.
+-- How many bytes the record of each mark has: KP and GB ten, and those of a WI follow from its counts.
+abbrev pub own_size : OwnMark → List ℕ → ℕ → ℕ
+own_size Kp s at = 10
+own_size Gb s at = 10
+own_size Wi s at = window_size s at
+
+-- What each is.
+abbrev pub own_is : OwnMark → ℕ → RecordAt
+own_is Kp to = Keeps to
+own_is Gb to = Returns to
+own_is Wi to = Watches to
+
+-- A record whose mark is no journal's own fails as the calls of a book say.
 abbrev pub own_marked : Option OwnMark → List ℕ → ℕ → Refusal → RecordAt
-own_marked (Some Kp) s at r = whole_record s at 10 (λ to. Keeps to)
-own_marked (Some Gb) s at r = whole_record s at 10 (λ to. Returns to)
+own_marked (Some m) s at r = whole_record s at (own_size m s at) (own_is m)
 own_marked None s at r = Fails r
 
 abbrev pub own_record : List ℕ → ℕ → Refusal → RecordAt

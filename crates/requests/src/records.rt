@@ -2,6 +2,7 @@
 ghost use Rattle.std.specs.Prelude.{◌≡◌, ◌+◌, ◌≤◌, length};
 ghost use Rattle.requests.specs.Records as records;
 
+use crate::watched::window_size;
 use crate::{OwnMark, RecordAt};
 use model::Refusal;
 use planning::Name;
@@ -14,6 +15,7 @@ fn own_mark(a: u8, b: u8) -> Option<OwnMark>
     match (a, b) {
         (b'K', b'P') => Some(OwnMark::Kp),
         (b'G', b'B') => Some(OwnMark::Gb),
+        (b'W', b'I') => Some(OwnMark::Wi),
         _ => None,
     }
 }
@@ -38,24 +40,35 @@ pub fn name_at(s: &[u8], at: usize) -> Name
     }
 }
 
-// How many bytes a keeping and a return have: a mark and a name.
-const SIZE: usize = 2 + Name::BYTES;
+// How many bytes the record of a mark at an offset has.
+fn own_size(mark: OwnMark, s: &[u8], at: usize) -> usize
+    requires { at + 2 ≤ length s.now }
+    ensures { result ≡ records.own_size mark s.now at }
+{
+    match mark {
+        OwnMark::Kp | OwnMark::Gb => 2 + Name::BYTES,
+        OwnMark::Wi => window_size(s, at),
+    }
+}
 
-// What no call of a book is: a keeping, a return, or a record refused as the calls of a book say.
+// What no call of a book is: a record of a journal's own, or one refused as the calls of a book say.
 fn own_record(s: &[u8], at: usize, refusal: Refusal) -> RecordAt
     ensures { result ≡ records.own_record s.now at refusal }
 {
     let Some(mark) = own_at(s, at) else {
         return RecordAt::Fails { refusal };
     };
-    if s.len().saturating_sub(at) < SIZE {
+    let size = own_size(mark, s, at);
+    if s.len().saturating_sub(at) < size {
         return RecordAt::Fails {
             refusal: Refusal::Short,
         };
     }
+    let to = at + size;
     match mark {
-        OwnMark::Kp => RecordAt::Keeps { to: at + SIZE },
-        OwnMark::Gb => RecordAt::Returns { to: at + SIZE },
+        OwnMark::Kp => RecordAt::Keeps { to },
+        OwnMark::Gb => RecordAt::Returns { to },
+        OwnMark::Wi => RecordAt::Watches { to },
     }
 }
 
