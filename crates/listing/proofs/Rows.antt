@@ -1,6 +1,6 @@
 -- The lines of the rows of a table, one after another on a page. Assumes nothing.
-use Rattle.std.proofs.Common.{◌≡◌, ℕ, zero, suc, ◌+◌, ◌*◌, ◌≤◌, ◌<◌, List, ◌++◌, length, take, get_or, refl, ap, ◌∙◌, subst, arith, add-one}
-use Rattle.std.proofs.lemmas.List.{get_or_read_under, get_or-take}
+use Rattle.std.proofs.Common.{◌≡◌, ℕ, zero, suc, ◌+◌, ◌*◌, ◌≤◌, ◌<◌, List, ◌++◌, length, take, get_or, refl, ap, ◌∙◌, subst, arith, add-one, mul-suc}
+use Rattle.std.proofs.lemmas.List.{get_or-take}
 use mathlib.Core.Path.{ap₂}
 use lib.Seq.{length-take-le}
 use Rattle.laws.specs.Table.{table}
@@ -11,7 +11,7 @@ use Rattle.text.proofs.Pages.{restate, then, widen}
 use Rattle.listing.specs.Listing.{lines_of}
 
 -- Lines that agree at each place are the same text.
-lines_same : (n : ℕ) (f g : ℕ → List ℕ) → ((k : ℕ) → k < n → f k ≡ g k) → lines_of n f ≡ lines_of n g
+pub lines_same : (n : ℕ) (f g : ℕ → List ℕ) → ((k : ℕ) → k < n → f k ≡ g k) → lines_of n f ≡ lines_of n g
 unfolding lines_of
 lines_same zero f g e = refl
 lines_same (suc n) f g e = ap₂ ◌++◌ (lines_same n f g (λ k h. e k (omega arith))) (e n (omega arith))
@@ -21,13 +21,12 @@ module _ {Row : Type 0} (line : Row → ℕ → List ℕ) (none : Row) (rows : L
   abbrev pub lines_to : ℕ → List ℕ
   lines_to n = lines_of n (λ k. line (get_or rows k none) k)
 
-  -- One line more.
-  pub line_more : (k : ℕ) (row : Row) {old mid new : Page} → k < length rows → row ≡ get_or rows k row
-      → Puts (128 * k) old (lines_to k) mid → Puts 128 mid (line row k) new → Puts (128 * (k + 1)) old (lines_to (k + 1)) new
+  -- One line more, each of at most so many bytes.
+  pub line_more : (room k : ℕ) (row : Row) {old mid new : Page} → row ≡ get_or rows k none
+      → Puts (room * k) old (lines_to k) mid → Puts room mid (line row k) new → Puts (room * (k + 1)) old (lines_to (k + 1)) new
   unfolding lines_of
-  line_more k row h e before w =
-      let read : row ≡ get_or rows k none = get_or_read_under rows k (length rows) row none e h refl in
-      rw (add-one k) (widen (then before (restate w (ap (λ (r : Row). line r k) read))) (omega arith))
+  line_more room k row read before w =
+      rw (add-one k) (widen (then before (restate w (ap (λ (r : Row). line r k) read))) (omega (arith, mul-suc room k)))
 
 -- The rows of a table that are in use put the lines of what it holds.
 module _ {Row : Type 0} (line : Row → ℕ → List ℕ) (none : Row) (size n : ℕ) (f : ℕ → Row) (full : List Row) (few : n ≤ size) (e : full ≡ table size none n f) where

@@ -1,5 +1,6 @@
 -- Each row puts its line behind those of the rows before it.
-use Rattle.std.proofs.Common.{◌≡◌, ◌*◌, length, subst, arith, ℕ}
+use Rattle.std.proofs.Common.{◌≡◌, ◌*◌, length, refl, subst, arith, ℕ}
+use Rattle.std.proofs.lemmas.List.{get_or_read_under}
 use Rattle.text.specs.Page.{Puts}
 use Rattle.text.proofs.Pages.{still}
 use Rattle.listing.specs.Listing.{lines_of}
@@ -16,7 +17,9 @@ put-requires g c = let i = c.loop-k.invariant in (omega arith, omega (arith, i.p
 pub loop-k-preserved : goal.loop-k-preserved
 loop-k-preserved g c =
     let turn = c.loop-k in
-    line_more g.T.Row.line g.T.Row.none c.args.rows.now turn.k _ c.loop-k-test.true c.index-rows-k.is turn.invariant c.put.ensures
+    let rows = c.args.rows.now in
+    let read = get_or_read_under rows turn.k (length rows) _ g.T.Row.none c.index-rows-k.is c.loop-k-test.true refl in
+    line_more g.T.Row.line g.T.Row.none rows 128 turn.k _ read turn.invariant c.put.ensures
 
 pub returns : goal.returns
 returns g c =

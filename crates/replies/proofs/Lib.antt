@@ -1,0 +1,2 @@
+-- The proofs of what is printed for a request.
+pub mod Lines

@@ -1,0 +1,2 @@
+-- What is printed for each request of a journal.
+pub mod Reply

@@ -1,0 +1,38 @@
+// The lines that are printed for a request of a journal whose reply has more than one.
+#![tactic(auto)]
+
+ghost use Rattle.std.specs.Prelude.{◌≤◌, ◌+◌, ◌*◌, length, get_or};
+ghost use Rattle.text.specs.Page.{Fits, Puts};
+ghost use Rattle.listing.specs.Listing.{lines_of};
+ghost use Rattle.replies.specs.Reply as replies;
+
+use report::{CallLine, Outcome, WindowLine};
+use text::Page;
+use window::Windows;
+
+// The lines of windows, the first from the oldest years. It is a loop beside that over a table's rows, whose trait is its crate's own.
+fn window_lines(page: &mut Page, runoffs: &[u32])
+    requires { (length runoffs.now ≤ 181) × Fits (64 * length runoffs.now) page.old }
+    ensures { Puts (64 * length runoffs.now) page.old (lines_of (length runoffs.now) (λ k. replies.window_text (get_or runoffs.now k 0) k)) page.new }
+{
+    for (k, runoff) in runoffs.iter().enumerate() {
+        WindowLine {
+            number: k as u64 + 1,
+            runoff: u64::from(*runoff),
+        }
+        .put(page);
+    }
+}
+
+// The lines of a moving window at place k among the records: `windows` and how many there are, or `refused`, and then a line for each window.
+pub fn windows(page: &mut Page, k: u64, windows: &Windows)
+    requires { (windows.now.count ≤ 181) × Fits 16384 page.old }
+    ensures { Puts 16384 page.old (replies.windows_text k windows.now) page.new }
+{
+    CallLine {
+        call: k,
+        outcome: listing::answered(windows.answer, Outcome::Windows(windows.count as u64)),
+    }
+    .put(page);
+    window_lines(page, &windows.runoffs[..windows.count]);
+}
