@@ -1,13 +1,13 @@
 -- Windows that move on by a year, and the bounds of their sums. Assumes nothing.
 use Rattle.std.proofs.Common.{◌≡◌, ◌∙◌, ℕ, ◌+◌, ◌*◌, ◌≤◌, ◌<◌, List, ◌∷◌, length, take, drop, get_or, sym, ap, arith, add-one, suc}
-use Rattle.std.specs.List.{All, sum_by}
+use Rattle.std.specs.List.{sum_by}
 use Rattle.std.proofs.lemmas.List.{drop_more, get_or-drop, length-drop, length-take-le}
 use Rattle.std.proofs.lemmas.List.Sums.{sum_by-cons, sum_by_more, sum_by-le}
 use Rattle.std.proofs.lemmas.List.Elements.{All-weaker, All-take, All-drop}
 use Rattle.runoff.specs.Year.{rain_parts, rain_year, RainRange}
 use Rattle.runoff.proofs.RainBounds.{rain_within}
 use Rattle.runoff.specs.declared.Soils.{Soils}
-use Rattle.window.specs.Moving.{years_on, window_sum, Yielding, Movable}
+use Rattle.window.specs.Moving.{years_on, window_sum, Yielding}
 use Rattle.window.specs.Window.{window}
 
 -- The window that begins a year later has the year that enters in place of the year that leaves, whatever the width.

@@ -2,7 +2,7 @@
 use Rattle.std.proofs.Common.{◌≡◌, ◌∙◌, ◌-◌, ap, arith, add-one, suc, length}
 use Rattle.laws.proofs.Arrays.{filled_start, filled_put, filled_table}
 use Rattle.window.specs.Window.{place_limit, window_count}
-use Rattle.window.specs.Moving.{window_sum, mean_of, mean_at}
+use Rattle.window.specs.Moving.{mean_of, mean_at}
 use Rattle.window.proofs.Sums.{window_within}
 use Rattle.window.proofs.moving.means.Goals as goal
 

@@ -1,6 +1,6 @@
 -- `window::moved` meets its contract. Assumes nothing.
-use Rattle.std.proofs.Common.{◌≡◌, ◌∙◌, ◌+◌, ◌*◌, ◌≤◌, ap, arith, get_or}
-use Rattle.runoff.specs.Year.{rain_year, RainRange}
+use Rattle.std.proofs.Common.{◌≡◌, ◌∙◌, ◌+◌, ap, arith, get_or}
+use Rattle.runoff.specs.Year.{rain_year}
 use Rattle.runoff.proofs.RainBounds.{rain_within}
 use Rattle.window.specs.Moving.{window_sum}
 use Rattle.window.proofs.Sums.{moves_on, in_range, window_within}
