@@ -1,7 +1,7 @@
 -- The program's state follows what was asked, request by request. Assumes nothing.
-use Rattle.std.specs.Prelude.{Some, None, Ok}
+use Rattle.std.specs.Prelude.{Some, None, Ok, Err}
 use Prim.Native.Nat.{ℕ, ◌+◌, ◌≤◌, ◌<◌}
-use mathlib.Core.Path.{◌≡◌, sym, ap, subst⁻¹, ◌∙◌}
+use mathlib.Core.Path.{◌≡◌, refl, sym, ap, subst⁻¹, ◌∙◌}
 use mathlib.Core.Bool.{Bool, true, false, cond, not, ◌&&◌, true≢false}
 use mathlib.Core.List.{List, [], ◌∷◌, ◌++◌}
 use lib.Dec.{leb}
@@ -15,7 +15,7 @@ use Rattle.laws.proofs.Arrays.{table_at, table_put, table_same, table_more}
 use Rattle.model.specs.declared.Refusal.TheVariants.{FifthName, NoSuchName}
 use Rattle.model.specs.declared.Balance.{Balance}
 use Rattle.model.specs.declared.Call.{Call}
-use Rattle.model.specs.Answers.{refuse}
+use Rattle.model.specs.Answers.{Answer, refuse}
 use Rattle.model.specs.View.{view_of}
 use Rattle.river.proofs.Firsts.{first_same}
 use Rattle.basin.specs.Sound.{sound}
@@ -33,7 +33,11 @@ use Rattle.planning.specs.State.{empty_kept, no_kept, name_at as held_at, balanc
 use Rattle.planning.specs.Calls.{place_in, kept_under}
 use Rattle.planning.proofs.Naming.{same_self, same_sym, same_through}
 use Rattle.planning.proofs.Replying.{stands, keep_again, keep_fifth, keep_new, back_none, back_to}
-use Rattle.requests.specs.Requests.{Request, ask, keep, back, state_after}
+use Rattle.requests.specs.Watched.{Watched}
+use Rattle.requests.specs.Requests.{Request, ask, keep, back, watch, state_after}
+use Rattle.runoff.specs.declared.Plot.{Plot}
+use Rattle.window.specs.Refused.{windows_refusal}
+use Rattle.window.specs.Window.{replied}
 use Rattle.history.specs.Asked.{Asked, name_at, among, asking, telling}
 use Rattle.history.specs.Claim.{told, kept_as, described}
 use Rattle.history.proofs.Kept.{Sought, found, absent, sought, Well, name_before, name_last, one_longer, replacing, adding, kept_again, kept_new, kept_fifth, back_found, back_absent, well_replacing, well_adding}
@@ -41,6 +45,12 @@ use Rattle.history.proofs.Kept.{Sought, found, absent, sought, Well, name_before
 -- What a reply of keeping or going back says.
 abbrev said_in : Reply → Said
 said_in r = record { answer = r.answer; number = r.number }
+
+-- A moving window is told its own refusal, or 0 as the number.
+windows_told : (r : Answer) (plots : List Plot) (years : List ℕ) (width : ℕ)
+    → record { answer = (replied r plots years width).answer; number = (replied r plots years width).number } ≡ saying r 0
+windows_told (Ok u) plots years width = refl
+windows_told (Err k) plots years width = refl
 
 -- One request: the program's state, what it tells, and that what was asked stays well.
 pub record Step (d : Description) (b : Balance) (a : Asked) (r : Request) : Type 0 where
@@ -204,7 +214,12 @@ module _ (d : Description) (b : Balance) (f : Follows d b start) (a : Asked) (w 
         well = record { few = w.few; apart = w.apart; steady = w.steady };
       }
 
+  -- A moving window leaves what is held.
+  watch_step : (q : Watched) → Step d b a (watch q)
+  watch_step q = record { holds = refl; tells = windows_told (windows_refusal q.plots q.years q.width) q.plots q.years q.width; well = w }
+
   pub step : (r : Request) → Step d b a r
   step (ask c) = ask_step c
   step (keep n) = keep_step n (sought a.names n)
   step (back n) = back_step n (sought a.names n)
+  step (watch q) = watch_step q

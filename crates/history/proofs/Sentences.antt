@@ -18,7 +18,7 @@ use Rattle.conservation.specs.Replies.{Said, number_for, saying}
 use Rattle.planning.specs.declared.Name.{Name}
 use Rattle.planning.specs.Names.{same_name}
 use Rattle.planning.proofs.Naming.{same_self, same_sym}
-use Rattle.requests.specs.Requests.{Request, ask, keep, back}
+use Rattle.requests.specs.Requests.{Request, ask, keep, back, watch}
 use Rattle.history.specs.Asked.{Asked, among, keep_refused, back_refused, kept_under, returned, unless_refused, asking, history, tellings, calls, leaves}
 
 -- A list of calls is kept under a name.
@@ -107,6 +107,7 @@ held_on a n l h (keep m ∷ rs) e =
     let p = both (not (same_name m n)) (leaves n rs) e in
     held_on (asking a (keep m)) n l (keeps_others a m n l (apart_sym m n (not-true _ p.0)) h) rs p.1
 held_on a n l h (back m ∷ rs) e = held_on (asking a (back m)) n l (back_leaves a m n l h) rs e
+held_on a n l h (watch w ∷ rs) e = held_on a n l h rs e
 
 history_append : (a : Asked) (rs ss : List Request) → history a (rs ++ ss) ≡ history (history a rs) ss
 unfolding history

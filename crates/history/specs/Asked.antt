@@ -9,7 +9,8 @@ use Rattle.conservation.specs.Demand3.{start, tally_refusal, tallied}
 use Rattle.conservation.specs.Replies.{Said, number_for, saying}
 use Rattle.planning.specs.declared.Name.{Name}
 use Rattle.planning.specs.Names.{place_limit, same_name}
-use Rattle.requests.specs.Requests.{Request, ask, keep, back}
+use Rattle.window.specs.Refused.{windows_refusal}
+use Rattle.requests.specs.Requests.{Request, ask, keep, back, watch}
 
 -- What was asked so far comes to: the list of calls, refused ones included; the names under which something is kept, in the order in which
 -- they were first kept; and under each name the list of calls at its last keeping.
@@ -60,22 +61,25 @@ abbrev pub unless_refused : Answer → Asked → Asked → Asked
 unless_refused (Ok u) new old = new
 unless_refused (Err k) new old = old
 
+-- A moving window changes nothing.
 abbrev pub asking : Asked → Request → Asked
 asking a (ask c) = called a c
 asking a (keep n) = unless_refused (keep_refused a n) (kept_under a n) a
 asking a (back n) = unless_refused (back_refused a n) (returned a n) a
+asking a (watch w) = a
 
 -- After a list of requests.
 unfoldable pub history : Asked → List Request → Asked
 history a [] = a
 history a (r ∷ rs) = history (asking a r) rs
 
--- What is to be told of a request: of a call what the tally says after the list of calls, of keeping and going back the refusal, or accepted
--- with 0 as the number, since no title is concerned.
+-- What is to be told of a request: of a call what the tally says after the list of calls, of keeping, going back and the moving window the
+-- refusal, or accepted with 0 as the number, since no title is concerned.
 abbrev pub telling : Description → Asked → Request → Said
 telling d a (ask c) = saying (tally_refusal d (tallied d start a.current) c) (number_for (tallied d start a.current) c)
 telling d a (keep n) = saying (keep_refused a n) 0
 telling d a (back n) = saying (back_refused a n) 0
+telling d a (watch w) = saying (windows_refusal w.plots w.years w.width) 0
 
 unfoldable pub tellings : Description → Asked → List Request → List Said
 tellings d a [] = []
@@ -91,3 +95,4 @@ leaves n [] = true
 leaves n (ask c ∷ rs) = leaves n rs
 leaves n (keep m ∷ rs) = not (same_name m n) && leaves n rs
 leaves n (back m ∷ rs) = leaves n rs
+leaves n (watch w ∷ rs) = leaves n rs

@@ -12,7 +12,8 @@ use Rattle.planning.specs.declared.State.{State}
 use Rattle.planning.specs.Names.{place_limit}
 use Rattle.planning.specs.State.{empty_kept, balance_at}
 use Rattle.planning.specs.Calls.{keep_reply, back_reply}
-use Rattle.requests.specs.Requests.{Request, ask, keep, back, state_after}
+use Rattle.requests.specs.Watched.{watched_reply}
+use Rattle.requests.specs.Requests.{Request, ask, keep, back, watch, state_after}
 use Rattle.history.specs.Asked.{Asked, name_at}
 
 -- What the program tells of a request: the answer and the number of its reply.
@@ -20,6 +21,7 @@ abbrev pub told : State → Request → Said
 told s (ask c) = record { answer = (call_reply s.balance c).answer; number = (call_reply s.balance c).number }
 told s (keep n) = record { answer = (keep_reply s n).answer; number = (keep_reply s n).number }
 told s (back n) = record { answer = (back_reply s n).answer; number = (back_reply s n).number }
+told s (watch w) = record { answer = (watched_reply w).answer; number = (watched_reply w).number }
 
 unfoldable pub all_told : State → List Request → List Said
 all_told s [] = []

@@ -9,6 +9,7 @@ use window::{Windows, moving_windows};
 
 // One soil record and one year more than are accepted: more of them are refused by their number alone.
 const PLOTS: usize = Windows::SOILS + 1;
+
 const YEARS: usize = Windows::RECORD + 1;
 
 // The byte at an offset, and 0 past the end.
