@@ -15,9 +15,9 @@ use Rattle.text.specs.Text.{Written}
 use Rattle.text.proofs.Writing.{front}
 use Rattle.listing.specs.Listing.{table_text}
 use Rattle.replay.specs.declared.Replayed.{Replayed}
-use Rattle.replay.specs.Page.{Page, joined, onward, page_limit, page_of, Replied}
+use Rattle.replay.specs.Page.{Page, joined, onward, page_limit, page_of, page_within, Replied}
 use Rattle.replay.specs.Journal.{begun, replies_text, journal_text}
-use Rattle.transcript.proofs.Pages.{pages_join, enough_records}
+use Rattle.transcript.proofs.Pages.{pages_join, fitting, enough_records}
 use Rattle.transcript.proofs.Whole.{whole_text}
 use Rattle.output.specs.Appending.{AppendsBeginning, Appended}
 use Rattle.output.specs.Left.{left_text}
@@ -36,17 +36,17 @@ begun_text : (s : List ℕ) → (begun s).text ++ left_text s (begun s).next 1 (
 begun_text s = sym (onward_text (begun s) (page_of (length s + 1) 1 (begun s).state s (begun s).next)) ∙ sym (whole_text s)
 
 -- A page, and what is then left.
-page_text : (s : List ℕ) (at k : ℕ) (st : State) (p : Page) → p ≡ page_of page_limit k st s at
+page_text : (s : List ℕ) (at k : ℕ) (st : State) (n : ℕ) (p : Page) → p ≡ page_of n k st s at
     → p.text ++ left_text s p.next (k + p.count) p.state p.more ≡ replies_text (page_of (length s + 1) k st s at)
-page_text s at k st p e =
-    let q = page_of page_limit k st s at in
-    let many : page_limit + (length s + 1) ≡ length s + 1 + page_limit = omega arith in
+page_text s at k st n p e =
+    let q = page_of n k st s at in
+    let many : n + (length s + 1) ≡ length s + 1 + n = omega arith in
     ap (λ (x : Page). x.text ++ left_text s x.next (k + x.count) x.state x.more) e
     ∙ sym (onward_text q (page_of (length s + 1) (k + q.count) q.state s q.next))
     ∙ ap replies_text
-    (sym (pages_join page_limit (length s + 1) k st s at)
-    ∙ ap (λ (n : ℕ). page_of n k st s at) many
-    ∙ enough_records s page_limit k st at)
+    (sym (pages_join n (length s + 1) k st s at)
+    ∙ ap (λ (m : ℕ). page_of m k st s at) many
+    ∙ enough_records s n k st at)
 
 -- What is left after records, by what the code hands back.
 left_so : (s : List ℕ) (k : ℕ) (p : Page) {old new : List ℕ} (r : Replayed) → Replied p old new r
@@ -71,16 +71,17 @@ putting_start s old at k st more = record { text = []; appended = Appends-nil ol
 
 module _ (s all : List ℕ) (at k : ℕ) (st : State) (more : Bool) (old mid : Option (List ℕ)) (g : Putting s all old mid at k st more) where
   -- A page more, and what is then left, are what was left.
-  page_left : more ≡ true → {buffer out : List ℕ} (r : Replayed) → Replied (page_of page_limit k st s at) buffer out r
+  page_left : more ≡ true → {buffer out : List ℕ} (r : Replayed) → Replied (page_within page_limit 0 k st s at) buffer out r
       → g.text ++ (take r.length out ++ left_text s r.next (k + r.count) r.state r.more) ≡ all
   page_left on r w =
-      let p = page_of page_limit k st s at in
+      let p = page_within page_limit 0 k st s at in
+      let f = fitting page_limit 0 k st s at in
       ap₂ (λ (l m : List ℕ). g.text ++ (l ++ m)) (front w.text) (left_so s k p r w)
-      ∙ ap (λ (l : List ℕ). g.text ++ l) (page_text s at k st p refl)
+      ∙ ap (λ (l : List ℕ). g.text ++ l) (page_text s at k st f.most p f.same)
       ∙ ap (λ (t : Bool). g.text ++ left_text s at k st t) (sym on)
       ∙ g.whole
 
-  module _ (now : Option (List ℕ)) (on : more ≡ true) {buffer out : List ℕ} (r : Replayed) (w : Replied (page_of page_limit k st s at) buffer out r) where
+  module _ (now : Option (List ℕ)) (on : more ≡ true) {buffer out : List ℕ} (r : Replayed) (w : Replied (page_within page_limit 0 k st s at) buffer out r) where
     -- It is written.
     pub putting_on : Appends mid now (take r.length out) → Putting s all old now r.next (k + r.count) r.state r.more
     putting_on a =

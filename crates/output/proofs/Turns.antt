@@ -1,6 +1,6 @@
 -- The loop that writes the pages of a journal: the places of its records stay small, and it ends. Assumes nothing.
 use Prim.Native.Nat.{ℕ, suc, ◌+◌, ◌-◌, ◌*◌, ◌≤◌, ◌<◌}
-use mathlib.Core.Path.{◌≡◌, sym, ◌∙◌}
+use mathlib.Core.Path.{◌≡◌, sym, subst, ◌∙◌}
 use mathlib.Core.Bool.{Bool, true, cond}
 use mathlib.Core.List.{List}
 use lib.ListN.{length}
@@ -8,9 +8,9 @@ use native.Mathlib.Omega.{arith}
 use Rattle.laws.proofs.Cases.{by_bool, by_lt}
 use Rattle.planning.specs.declared.State.{State}
 use Rattle.replay.specs.declared.Replayed.{Replayed}
-use Rattle.replay.specs.Page.{page_limit, page_of, Replied}
+use Rattle.replay.specs.Page.{page_limit, page_within, Replied}
 use Rattle.replay.specs.Journal.{journal_limit}
-use Rattle.transcript.proofs.Pages.{GoesOn, page_onward}
+use Rattle.transcript.proofs.Pages.{GoesOn, page_onward, Fitting, fitting}
 
 -- Before a page: a journal that goes on is not too long, each record before it took at least four bytes, and its first place is small.
 pub record Turn (s : List ℕ) (at k : ℕ) (more : Bool) : Type 0 where
@@ -22,12 +22,16 @@ pub record Turn (s : List ℕ) (at k : ℕ) (more : Bool) : Type 0 where
 abbrev pub left : List ℕ → ℕ → Bool → ℕ
 left s at more = cond more (suc (length s - at)) 0
 
-module _ (s : List ℕ) (at k : ℕ) (st : State) (old new : List ℕ) (r : Replayed) (w : Replied (page_of page_limit k st s at) old new r) where
-  goes : GoesOn page_limit at s (page_of page_limit k st s at)
-  goes = page_onward page_limit k st s at
+module _ (s : List ℕ) (at k : ℕ) (st : State) (old new : List ℕ) (r : Replayed) (w : Replied (page_within page_limit 0 k st s at) old new r) where
+  -- The records that fit on the page.
+  fits : Fitting page_limit 0 k st s at
+  fits = fitting page_limit 0 k st s at
+
+  goes : GoesOn fits.most at s (page_within page_limit 0 k st s at)
+  goes = subst (GoesOn fits.most at s) (sym fits.same) (page_onward fits.most k st s at)
 
   pub few : r.count ≤ page_limit
-  few = omega (arith, w.count, goes.few)
+  few = omega (arith, w.count, goes.few, fits.few)
 
   far : at + 4 * r.count ≤ r.next
   far = omega (arith, w.count, w.next, goes.far)
@@ -51,6 +55,6 @@ module _ (s : List ℕ) (at k : ℕ) (st : State) (old new : List ℕ) (r : Repl
     turn_less =
         by_bool r.more
         (λ e.
-        let c : r.count ≡ 16384 = w.count ∙ goes.full (sym w.more ∙ e) in
+        let c : 0 < r.count = omega (arith, w.count, goes.full (sym w.more ∙ e), fits.some (omega arith) (omega arith)) in
         rw (e, on) (omega (arith, c, far, inside (omega (arith, c)))))
         (λ e. rw (e, on) (omega arith))

@@ -1,5 +1,5 @@
 -- The replies to the records of a journal, one record or one page of them at a time. Assumes nothing.
-use Rattle.std.specs.Prelude.{ℕ, zero, suc, ◌+◌, ◌≡◌, Bool, true, false, cond, List, [], ◌++◌, Ok, Err}
+use Rattle.std.specs.Prelude.{ℕ, zero, suc, ◌+◌, ◌-◌, ◌≡◌, Bool, true, false, cond, List, [], ◌++◌, ltb, length, Ok, Err}
 use Rattle.model.specs.Answers.{Answer, number}
 use Rattle.register.specs.Calls.{call_reply}
 use Rattle.planning.specs.declared.State.{State}
@@ -56,11 +56,32 @@ joined p q = record { text = p.text ++ q.text; state = q.state; next = q.next; c
 abbrev pub onward : Page → Page → Page
 onward p q = cond p.more (joined p q) p
 
+-- No record yet: there may be more.
+abbrev pub no_record : State → ℕ → Page
+no_record st at = record { text = []; state = st; next = at; count = 0; more = true }
+
 -- At most so many records from an offset on, the first at place k, each on the state that the one before left.
 unfoldable pub page_of : ℕ → ℕ → State → List ℕ → ℕ → Page
-page_of zero k st s at = record { text = []; state = st; next = at; count = 0; more = true }
+page_of zero k st s at = no_record st at
 page_of (suc most) k st s at =
     onward (record_reply k st s at) (page_of most (suc k) (record_reply k st s at).state s (record_reply k st s at).next)
+
+-- The most bytes of a reply.
+abbrev pub reply_limit : ℕ
+reply_limit = 16384
+
+-- The most bytes of the lent buffer that may be used before a record, so that the longest reply still fits.
+abbrev pub page_room : ℕ
+page_room = 1064960 - reply_limit
+
+-- At most so many records as in `page_of`, where so many bytes of the buffer are used before the first: a page ends too when so little of the buffer
+-- is left that the longest reply might not fit.
+unfoldable pub page_within : ℕ → ℕ → ℕ → State → List ℕ → ℕ → Page
+page_within zero used k st s at = no_record st at
+page_within (suc most) used k st s at =
+    let reply = record_reply k st s at in
+    cond (ltb page_room used) (no_record st at)
+    (onward reply (page_within most (used + length reply.text) (suc k) reply.state s reply.next))
 
 -- The most records of a page.
 abbrev pub page_limit : ℕ

@@ -15,10 +15,16 @@ use report::{CallLine, Outcome, ROOM};
 use requests::RecordAt;
 use text::Page;
 
-// The most records of a page: 1,048,576 bytes of the buffer hold their replies, of at most 64 bytes each.
+// The most records of a page.
 const PAGE: usize = 16_384;
 
-// What was replayed, the current balance standing apart from what is kept: one literal for the three places where a page ends. `Replayed` would
+// The most bytes of a reply.
+const REPLY: usize = 16_384;
+
+// The most bytes of the buffer that may be used before a record, so that the longest reply still fits.
+const PAGE_ROOM: usize = ROOM - REPLY;
+
+// What was replayed, the current balance standing apart from what is kept: one literal for the four places where a page ends. `Replayed` would
 // have to be made without its state to take fewer values.
 fn replayed(
     kept: State,
@@ -68,8 +74,8 @@ fn whole_sound(known: &mut Option<bool>, kept: &State, balance: &Balance) -> boo
     }
 }
 
-// The replies to at most so many records from an offset on, the first of them at place `first` among the records of its journal. The
-// current balance stands apart from what is kept, so that a call changes it alone: an accepted one takes as many instructions as in `balance`.
+// The replies to at most so many records from an offset on, the first of them at place `first` among the records of its journal. It ends before a
+// record whose reply might not fit. The current balance stands apart from what is kept, so that a call changes it alone: an accepted one takes as many instructions as in `balance`.
 // The whole state is tested for 0 at the first keeping or return, since calls need the test of the current balance alone.
 // It is a loop beside `listing::call_lines`, since the records are others and so is the state. A name's bytes are read once, where they are
 // needed: `RecordAt` has none. The count is a `usize` as `Replayed` has it, cast by `as u64`, since std has no `From` of it for `u64`. The four
@@ -83,7 +89,7 @@ fn replies(
     out: &mut [u8; ROOM],
 ) -> Replayed
     requires { most ≤ pages.page_limit }
-    ensures { pages.Replied (pages.page_of most first state s.now from) out.old out.new result }
+    ensures { pages.Replied (pages.page_within most 0 first state s.now from) out.old out.new result }
 {
     let mut whole: Option<bool> = None;
     let mut kept = state;
@@ -92,6 +98,9 @@ fn replies(
     let mut next = from;
     let mut page = Page::new(out);
     for count in 0..most {
+        if page.len() > PAGE_ROOM {
+            return replayed(kept, balance, next, count, page.len(), true);
+        }
         let (outcome, to) = match requests::record_at(s, next) {
             RecordAt::End => return replayed(kept, balance, next, count, page.len(), false),
             RecordAt::Fails { refusal } => {
@@ -143,7 +152,7 @@ pub fn next_record(state: State, s: &[u8], at: usize, k: u32, out: &mut [u8; ROO
 
 // The replies to a page of records from an offset on, the first of them at place k among the records of its journal.
 pub fn next_page(state: State, s: &[u8], at: usize, k: u32, out: &mut [u8; ROOM]) -> Replayed
-    ensures { pages.Replied (pages.page_of pages.page_limit k state s.now at) out.old out.new result }
+    ensures { pages.Replied (pages.page_within pages.page_limit 0 k state s.now at) out.old out.new result }
 {
     replies(state, s, at, k, PAGE, out)
 }

@@ -1,4 +1,4 @@
--- What a journal promises: how far its pages go, that they join, that the allowance of records never runs out, the state after them, and that it
+-- What a journal promises: how far its pages go, that they join, how many records fit on one, that the allowance of records never runs out, the state after them, and that it
 -- prints what a book prints where it has no record of its own. Assumes nothing.
 use Rattle.std.specs.Prelude.{Ok, Err, Option, Some, None}
 use Prim.Native.Nat.{ℕ, zero, suc, ◌+◌, ◌-◌, ◌*◌, ◌≤◌, ◌<◌}
@@ -8,8 +8,8 @@ use mathlib.Core.List.{List, [], ◌++◌, append_assoc}
 use lib.Dec.{ltb}
 use lib.ListN.{length, take}
 use native.Mathlib.Omega.{arith}
-use borrow.Author.Tests.{le-ltb}
-use Rattle.laws.proofs.Cases.{by_bool}
+use borrow.Author.Tests.{lt-ltb, le-ltb}
+use Rattle.laws.proofs.Cases.{by_bool, by_lt}
 use Rattle.model.specs.declared.Refusal.{Refusal}
 use Rattle.model.specs.Answers.{Answer}
 use Rattle.model.specs.declared.Balance.{Balance}
@@ -32,7 +32,7 @@ use Rattle.requests.specs.Requests.{ask, state_after, states_after, Asking, ends
 use Rattle.report.specs.Lines.{refused_line}
 use Rattle.listing.specs.Listing.{table_text, call_lines, end_text, run_text, answer_text, printed}
 use Rattle.calls.proofs.Onward.{asks_onward}
-use Rattle.replay.specs.Page.{Page, reply_text, reply_to, joined, onward, page_of}
+use Rattle.replay.specs.Page.{Page, reply_text, reply_to, record_reply, joined, onward, page_of, page_room, page_within}
 use Rattle.replay.specs.Journal.{is_own, journal_opened, all_replies, replies_text, opened_text, journal_limit, journal_text}
 use Rattle.transcript.specs.Plain.{fails_at_own, Plain}
 use Rattle.replay.proofs.Records.{Onward, onward as record-onward}
@@ -145,6 +145,29 @@ pages_join zero n k st s at =
 pages_join (suc m) n k st s at =
     let all : suc m + n ≡ suc (m + n) = omega arith in
     ap (λ (x : ℕ). page_of x k st s at) all ∙ join_one m n k st s at (λ k st to. pages_join m n k st s to) (request_at s at) refl
+
+-- A page that ends by the room of the buffer is one of as many records as fit, and one fits at least where there is room for the longest reply.
+pub record Fitting (m u k : ℕ) (st : State) (s : List ℕ) (at : ℕ) : Type 0 where
+  pub most : ℕ
+  pub few : most ≤ m
+  pub some : 0 < m → u ≤ page_room → 0 < most
+  pub same : page_within m u k st s at ≡ page_of most k st s at
+
+pub fitting : (m u k : ℕ) (st : State) (s : List ℕ) (at : ℕ) → Fitting m u k st s at
+unfolding page_of page_within
+fitting zero u k st s at = record { most = 0; few = omega arith; some = λ h r. absurd (omega arith); same = refl }
+fitting (suc m) u k st s at =
+    let reply = record_reply k st s at in
+    let rest = fitting m (u + length reply.text) (suc k) reply.state s reply.next in
+    by_lt page_room u
+    (λ h. record { most = 0; few = omega arith; some = λ z r. absurd (omega arith); same = rw (lt-ltb page_room u h) refl })
+    (λ h.
+    record {
+      most = suc rest.most;
+      few = omega (arith, rest.few);
+      some = λ z r. omega arith;
+      same = rw (le-ltb page_room u h) (ap (onward reply) rest.same);
+    })
 
 -- One record more is the same under both allowances, by what is asked.
 module _ (f g k : ℕ) (st : State) (s : List ℕ) (at : ℕ)

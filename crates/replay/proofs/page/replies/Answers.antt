@@ -20,7 +20,7 @@ use Rattle.report.specs.Calls.{outcome_line}
 use Rattle.listing.proofs.Calling.{called_line}
 use Rattle.replay.specs.Page.{kept_text, back_text, reply_text}
 use Rattle.replay.proofs.Records.{asked, keeps_onward, returns_onward}
-use Rattle.replay.proofs.Replaying.{Going, going_start, going_on, going_ends, going_fails, going_full, replied_so}
+use Rattle.replay.proofs.Replaying.{Going, going_start, going_on, going_ends, going_fails, going_short, going_full, replied_so}
 use Rattle.planning.specs.declared.Reply.{Reply}
 use Rattle.replay.proofs.Steps.{back_said, back_by_decision, tested_whole, tested_call, tested_keep, tested_back, kept_line, refused_state}
 use Rattle.replay.proofs.page.replies.Goals as goal
@@ -29,9 +29,19 @@ use Rattle.replay.proofs.page.replies.Goals.{After-put, In-Ok-decide_back, in-Ca
 pub loop-count-init : goal.loop-count-init
 loop-count-init c =
     record {
-      going = going_start c.args.s.now c.args.from c.args.first c.args.most c.args.state c.new-page.result (omega arith);
+      going = going_start c.args.s.now c.args.from c.args.first c.args.most c.args.state c.new-page.result (omega arith) c.new-page.ensures.empty;
       tested = record { balance = c.sound-sound.ensures; state = λ answer q. elim (none-some answer q) [ ]; sized = record { kept = omega arith } };
     }
+
+pub returns-then-len-gt-PAGE_ROOM : goal.returns-then-len-gt-PAGE_ROOM
+returns-then-len-gt-PAGE_ROOM c =
+    let a = c.args in
+    let loop = c.loop-count in
+    let going = loop.invariant.going in
+    let cur = with_current loop.kept loop.balance in
+    replied_so _ _ going.text cur loop.next loop.count true _ c.new-page.ensures going.put (omega arith) c.len-then-len-gt-PAGE_ROOM.ensures
+    (going_short a.s.now a.from a.first a.most a.state cur loop.next loop.count going (omega (arith, c.len.ensures, c.if-len-gt-PAGE_ROOM.true)))
+    c.replayed.ensures
 
 pub returns-in-End : goal.returns-in-End
 returns-in-End c =
@@ -39,9 +49,9 @@ returns-in-End c =
     let loop = c.loop-count in
     let going = loop.invariant.going in
     let cur = with_current loop.kept loop.balance in
-    replied_so _ _ going.text cur loop.next loop.count false _ c.new-page.ensures going.put (omega (arith, c.loop-count-test.true, c.requires)) c.len.ensures
-    (going_ends a.s.now a.from a.first a.most a.state cur loop.next loop.count going c.loop-count-test.true (asked a.s.now loop.next _ _ c.in-End.ensures refl))
-    c.replayed.ensures
+    replied_so _ _ going.text cur loop.next loop.count false _ c.new-page.ensures going.put (omega arith) c.len-in-End.ensures
+    (going_ends a.s.now a.from a.first a.most a.state cur loop.next loop.count going c.loop-count-test.true (omega (arith, c.len.ensures, c.if-len-gt-PAGE_ROOM.false)) (asked a.s.now loop.next _ _ c.in-End.ensures refl))
+    c.replayed-in-End.ensures
 
 pub returns-in-Fails : goal.returns-in-Fails
 returns-in-Fails c =
@@ -50,8 +60,8 @@ returns-in-Fails c =
     let going = loop.invariant.going in
     let cur = with_current loop.kept loop.balance in
     replied_so _ _ _ cur loop.next loop.count false _ c.new-page.ensures (then going.put c.refused_line.ensures)
-    (omega (arith, c.loop-count-test.true, c.requires)) c.len-in-Fails.ensures
-    (going_fails a.s.now a.from a.first a.most a.state cur loop.next loop.count going c.loop-count-test.true _ (asked a.s.now loop.next _ _ c.in-Fails.ensures refl))
+    (omega arith) c.len-in-Fails.ensures
+    (going_fails a.s.now a.from a.first a.most a.state cur loop.next loop.count going c.loop-count-test.true (omega (arith, c.len.ensures, c.if-len-gt-PAGE_ROOM.false)) _ (asked a.s.now loop.next _ _ c.in-Fails.ensures refl))
     c.replayed-in-Fails.ensures
 
 pub called-outcome-requires : goal.called-outcome-requires
@@ -102,7 +112,7 @@ module _ (c : After-put) where
       ap (λ (n : ℕ). outcome_line (n + loop.count) c.match-record_at.outcome.0) c.from.ensures
       ∙ ap (outcome_line (c.args.first + loop.count)) q
       ∙ line in
-      going_on c.args.s.now c.args.from c.args.first c.args.most c.args.state cur loop.next loop.count loop.invariant.going c.loop-count-test.true r to e next
+      going_on c.args.s.now c.args.from c.args.first c.args.most c.args.state cur loop.next loop.count loop.invariant.going c.loop-count-test.true (omega (arith, c.len.ensures, c.if-len-gt-PAGE_ROOM.false)) r to e next
       (restate c.put.ensures text) f
 
 pub loop-count-preserved : goal.loop-count-preserved
@@ -172,7 +182,7 @@ returns c =
     let going = loop.invariant.going in
     let cur = with_current loop.kept loop.balance in
     let all : a.most ≡ loop.count = omega (arith, going.few) in
-    replied_so _ _ going.text cur loop.next a.most true _ c.new-page.ensures going.put (omega (arith, going.few, c.requires)) c.len-2.ensures
+    replied_so _ _ going.text cur loop.next a.most true _ c.new-page.ensures going.put (omega arith) c.len-2.ensures
     (ap (λ (n : ℕ). record { text = going.text; state = cur; next = loop.next; count = n; more = true }) all
     ∙ going_full a.s.now a.from a.first a.most a.state cur loop.next loop.count going (omega (arith, c.loop-count-test.false)))
     c.replayed-2.ensures
