@@ -10,7 +10,8 @@ use Rattle.model.specs.View.{view_of}
 use Rattle.planning.specs.declared.State.{State}
 use Rattle.requests.specs.Requests.{Request, state_after, asks, request_at}
 use Rattle.listing.specs.Listing.{table_text}
-use Rattle.replay.specs.Page.{Page, reply_text, page_of}
+use Rattle.replies.specs.Reply.{reply_text}
+use Rattle.replay.specs.Page.{Page, page_of}
 use Rattle.replay.specs.Journal.{replies_text, opened_text}
 use Rattle.replay.proofs.Replaying.{page_asks}
 

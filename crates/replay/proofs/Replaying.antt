@@ -18,7 +18,8 @@ use Rattle.text.proofs.Pages.{then, still, on_buffer}
 use Rattle.report.specs.Lines.{refused_line}
 use Rattle.replay.specs.declared.Replayed.{Replayed}
 use Rattle.model.specs.declared.Refusal.{Refusal}
-use Rattle.replay.specs.Page.{Page, reply_text, reply_to, record_reply, joined, onward, no_record, page_of, page_room, page_within, Replied, replayed_so}
+use Rattle.replies.specs.Reply.{reply_text}
+use Rattle.replay.specs.Page.{Page, reply_to, record_reply, joined, onward, no_record, page_of, page_room, page_within, Replied, replayed_so}
 
 -- The records before, by the text of their replies and their number, and then a page.
 abbrev pub after : List ℕ → ℕ → Page → Page

@@ -11,7 +11,7 @@ use Rattle.requests.specs.Requests.{keep, back}
 use Rattle.report.specs.Calls.{outcome_line}
 use Rattle.report.specs.declared.Outcome.TheVariants.{Kept, Back}
 use Rattle.listing.specs.Outcomes.{answered}
-use Rattle.replay.specs.Page.{back_text, reply_text}
+use Rattle.replies.specs.Reply.{back_text, reply_text}
 use Rattle.replay.proofs.Steps.{kept_line}
 
 pub keeping_said : (k : ℕ) (st : State) (n : Name) → reply_text k st (keep n) ≡ outcome_line k (answered (keep_reply st n).answer Kept)

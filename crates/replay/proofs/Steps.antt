@@ -29,7 +29,7 @@ use Rattle.requests.specs.Requests.{ask, keep, back, state_after}
 use Rattle.report.specs.Calls.{outcome_line}
 use Rattle.report.specs.declared.Outcome.TheVariants.{Kept}
 use Rattle.listing.specs.Outcomes.{answered}
-use Rattle.replay.specs.Page.{kept_text}
+use Rattle.replies.specs.Reply.{kept_text}
 
 -- What holds of the state in the loop beside its replies: what the test of its balance gave still holds, and that of the whole state if it
 -- was made, and its array is whole.

@@ -1,35 +1,12 @@
 -- The replies to the records of a journal, one record or one page of them at a time. Assumes nothing.
-use Rattle.std.specs.Prelude.{ℕ, zero, suc, ◌+◌, ◌-◌, ◌≡◌, Bool, true, false, cond, List, [], ◌++◌, ltb, length, Ok, Err}
-use Rattle.model.specs.Answers.{Answer, number}
-use Rattle.register.specs.Calls.{call_reply}
+use Rattle.std.specs.Prelude.{ℕ, zero, suc, ◌+◌, ◌-◌, ◌≡◌, Bool, true, false, cond, List, [], ◌++◌, ltb, length}
+use Rattle.model.specs.Answers.{number}
 use Rattle.planning.specs.declared.State.{State}
-use Rattle.planning.specs.Calls.{keep_reply, back_reply}
-use Rattle.requests.specs.Requests.{Request, ask, keep, back, state_after, Asking, ends, fails, asks, request_at}
+use Rattle.requests.specs.Requests.{state_after, Asking, ends, fails, asks, request_at}
 use Rattle.text.specs.Text.{Written}
-use Rattle.report.specs.Lines.{refused_line, call_refused, call_kept, call_back}
-use Rattle.listing.specs.Listing.{call_text}
+use Rattle.report.specs.Lines.{refused_line}
+use Rattle.replies.specs.Reply.{reply_text}
 use Rattle.replay.specs.declared.Replayed.{Replayed}
-
--- The line of a keeping, and of a return, at place k among the records: `kept` or `back`, or `refused` with the refusal.
-abbrev pub kept_text : ℕ → Answer → List ℕ
-kept_text k (Ok u) = call_kept k
-kept_text k (Err r) = call_refused k (number r)
-
-abbrev pub back_text : ℕ → Answer → List ℕ
-back_text k (Ok u) = call_back k
-back_text k (Err r) = call_refused k (number r)
-
--- The line of a request at place k, by the answer and the number of its reply.
-abbrev pub request_line : ℕ → Request → Answer → ℕ → List ℕ
-request_line k (ask c) answer number = call_text k c answer number
-request_line k (keep n) answer number = kept_text k answer
-request_line k (back n) answer number = back_text k answer
-
--- The text of the reply to a request at place k, on a state.
-abbrev pub reply_text : ℕ → State → Request → List ℕ
-reply_text k st (ask c) = request_line k (ask c) (call_reply st.balance c).answer (call_reply st.balance c).number
-reply_text k st (keep n) = request_line k (keep n) (keep_reply st n).answer (keep_reply st n).number
-reply_text k st (back n) = request_line k (back n) (back_reply st n).answer (back_reply st n).number
 
 -- What some records give: the text of their replies, the state after them, the offset of the next, how many there were, and whether there
 -- may be more.

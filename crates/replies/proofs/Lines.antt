@@ -1,9 +1,17 @@
--- The lines of the first places of an array. Assumes nothing.
-use Rattle.std.proofs.Common.{◌≡◌, ◌∙◌, ℕ, ◌≤◌, List, length, take, get_or, ap}
+-- The lines of a moving window. Assumes nothing.
+use Rattle.std.proofs.Common.{◌≡◌, ◌∙◌, ℕ, ◌≤◌, List, length, take, get_or, refl, sym, ap, subst, arith, Ok, Err}
 use Rattle.std.proofs.lemmas.List.{get_or-take, length-take-le}
 use Rattle.listing.specs.Listing.{lines_of}
 use Rattle.listing.proofs.Rows.{lines_same}
-use Rattle.replies.specs.Reply.{window_text}
+use Rattle.model.specs.Answers.{Answer}
+use Rattle.report.specs.Calls.{outcome_line}
+use Rattle.report.specs.declared.Outcome.TheVariants.{Windows as windows}
+use Rattle.listing.specs.Outcomes.{answered}
+use Rattle.runoff.specs.declared.Plot.{Plot}
+use Rattle.window.specs.Refused.{windows_refusal}
+use Rattle.window.specs.Window.{replied, windows_reply}
+use Rattle.window.proofs.Accepted.{accepted_handed}
+use Rattle.replies.specs.Reply.{told_text, window_text}
 
 -- The lines of as many places as there are windows.
 abbrev pub lines_in : List ℕ → ℕ → List ℕ
@@ -13,3 +21,16 @@ pub lines_taken : (n : ℕ) (runoffs : List ℕ) → n ≤ length runoffs → li
 lines_taken n runoffs h =
     ap (lines_in (take n runoffs)) (length-take-le n runoffs h)
     ∙ lines_same n _ _ (λ k g. ap (λ (r : ℕ). window_text r k) (get_or-take n runoffs k 0 g))
+
+-- The line of a moving window is that of what it came to.
+pub told_line : (k : ℕ) (a : Answer) (count : ℕ) → outcome_line k (answered a (windows count)) ≡ told_text k a count
+told_line k (Ok u) count = refl
+told_line k (Err r) count = refl
+
+-- A reply has no more windows than places.
+few_by : (plots : List Plot) (years : List ℕ) (width : ℕ) (a : Answer) → windows_refusal plots years width ≡ a → (replied a plots years width).count ≤ 181
+few_by plots years width (Ok u) e = let h = accepted_handed plots years width e in omega (arith, h.width_from, h.years_to)
+few_by plots years width (Err r) e = omega arith
+
+pub few_windows : (plots : List Plot) (years : List ℕ) (width : ℕ) → (windows_reply plots years width).count ≤ 181
+few_windows plots years width = few_by plots years width (windows_refusal plots years width) refl

@@ -1,9 +1,10 @@
-// The lines that are printed for a request of a journal whose reply has more than one.
+// What is printed for a request of a journal whose reply has more than one line.
 #![tactic(auto)]
 
 ghost use Rattle.std.specs.Prelude.{◌≤◌, ◌+◌, ◌*◌, length, get_or};
 ghost use Rattle.text.specs.Page.{Fits, Puts};
 ghost use Rattle.listing.specs.Listing.{lines_of};
+ghost use Rattle.requests.specs.Watched.{window_size, watched_at, watched_reply};
 ghost use Rattle.replies.specs.Reply as replies;
 
 use report::{CallLine, Outcome, WindowLine};
@@ -24,8 +25,8 @@ fn window_lines(page: &mut Page, runoffs: &[u32])
     }
 }
 
-// The lines of a moving window at place k among the records: `windows` and how many there are, or `refused`, and then a line for each window.
-pub fn windows(page: &mut Page, k: u64, windows: &Windows)
+// The lines of a moving window at place k among the records: its own, and then one for each window.
+fn windows(page: &mut Page, k: u64, windows: &Windows)
     requires { (windows.now.count ≤ 181) × Fits 16384 page.old }
     ensures { Puts 16384 page.old (replies.windows_text k windows.now) page.new }
 {
@@ -35,4 +36,13 @@ pub fn windows(page: &mut Page, k: u64, windows: &Windows)
     }
     .put(page);
     window_lines(page, &windows.runoffs[..windows.count]);
+}
+
+// The lines of the WI at an offset, at place k among the records. Not in line, since its arrays would stand beside what each call needs.
+#[inline(never)]
+pub fn watched(page: &mut Page, s: &[u8], at: usize, k: u64)
+    requires { (at + window_size s.now at ≤ length s.now) × Fits 16384 page.old }
+    ensures { Puts 16384 page.old (replies.windows_text k (watched_reply (watched_at s.now at))) page.new }
+{
+    windows(page, k, &requests::windows_at(s, at));
 }

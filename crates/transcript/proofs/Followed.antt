@@ -19,7 +19,8 @@ use Rattle.requests.specs.Requests.{Request, ask, keep, back, state_after, state
 use Rattle.history.specs.Claim.{told, all_told, described, Conserved}
 use Rattle.history.proofs.Promise.{state_follows, replies_follow, demand_3_kept, state_sound}
 use Rattle.listing.specs.Listing.{table_text}
-use Rattle.replay.specs.Page.{Page, request_line, reply_text, page_of}
+use Rattle.replies.specs.Reply.{request_line, reply_text}
+use Rattle.replay.specs.Page.{Page, page_of}
 use Rattle.replay.specs.Journal.{book_of, journal_opened, journal_limit, replies_text, opened_text, journal_text}
 use Rattle.replay.proofs.Replaying.{page_ends, page_fails, page_asks, page_none}
 use Rattle.transcript.specs.Followed.{requests_in, asked_in, replies_in, told_lines, failure_from, failure_in, Followed}

@@ -32,7 +32,8 @@ use Rattle.requests.specs.Requests.{ask, state_after, states_after, Asking, ends
 use Rattle.report.specs.Lines.{refused_line}
 use Rattle.listing.specs.Listing.{table_text, call_lines, end_text, run_text, answer_text, printed}
 use Rattle.calls.proofs.Onward.{asks_onward}
-use Rattle.replay.specs.Page.{Page, reply_text, reply_to, record_reply, joined, onward, page_of, page_room, page_within}
+use Rattle.replies.specs.Reply.{reply_text}
+use Rattle.replay.specs.Page.{Page, reply_to, record_reply, joined, onward, page_of, page_room, page_within}
 use Rattle.replay.specs.Journal.{is_own, journal_opened, all_replies, replies_text, opened_text, journal_limit, journal_text}
 use Rattle.transcript.specs.Plain.{fails_at_own, Plain}
 use Rattle.replay.proofs.Records.{Onward, onward as record-onward}

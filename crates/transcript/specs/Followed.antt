@@ -11,7 +11,8 @@ use Rattle.history.specs.Asked.{Asked, nothing_asked, history, tellings}
 use Rattle.history.specs.Claim.{described, Conserved}
 use Rattle.report.specs.Lines.{refused_line}
 use Rattle.listing.specs.Listing.{table_text}
-use Rattle.replay.specs.Page.{Page, request_line}
+use Rattle.replies.specs.Reply.{request_line}
+use Rattle.replay.specs.Page.{Page}
 use Rattle.replay.specs.Journal.{book_of, journal_opened, all_replies, journal_text}
 
 -- The requests of a journal, and what they come to by what they ask alone.

@@ -18,7 +18,7 @@ use Rattle.text.proofs.Pages.{then, restate}
 use Rattle.report.specs.declared.Outcome.{Outcome}
 use Rattle.report.specs.Calls.{outcome_line}
 use Rattle.listing.proofs.Calling.{called_line}
-use Rattle.replay.specs.Page.{kept_text, back_text, reply_text}
+use Rattle.replies.specs.Reply.{kept_text, back_text, reply_text}
 use Rattle.replay.proofs.Records.{asked, keeps_onward, returns_onward}
 use Rattle.replay.proofs.Replaying.{Going, going_start, going_on, going_ends, going_fails, going_short, going_full, replied_so}
 use Rattle.planning.specs.declared.Reply.{Reply}
