@@ -12,7 +12,7 @@ pub record SoilInside (p : Plot) : Type 0 where
   pub hectares_from : 1 ≤ p.hectares
   pub hectares_to : p.hectares ≤ 300000
 
--- A rain year inside its values: 3500 to 21,500 tenths of a millimetre.
+-- A rain year inside its values: 3,500 to 21,500 tenths of a millimetre.
 pub record RainInside (tenths : ℕ) : Type 0 where
   pub rain_from : 3500 ≤ tenths
   pub rain_to : tenths ≤ 21500
