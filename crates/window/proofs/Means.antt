@@ -1,5 +1,5 @@
 -- The mean of each window is its natural runoff. Assumes nothing.
-use Rattle.std.proofs.Common.{◌≡◌, ◌∙◌, ℕ, ◌+◌, ◌*◌, ◌≤◌, ◌<◌, List, [], ◌∷◌, map, length, sym, ap, refl, arith, ℤ, pos, ◌+ℤ◌}
+use Rattle.std.proofs.Common.{◌≡◌, ◌∙◌, ℕ, ◌+◌, ◌*◌, ◌≤◌, ◌<◌, List, [], ◌∷◌, map, length, sym, ap, refl, arith, false, ℤ, pos, ◌+ℤ◌}
 use Rattle.std.specs.List.{All, sum_by}
 use Rattle.std.proofs.lemmas.Bool.{ne_eqb}
 use Rattle.std.proofs.lemmas.List.{length-map}
@@ -14,11 +14,12 @@ use Rattle.runoff.specs.Walk.{walked, no_soils}
 use Rattle.runoff.specs.declared.Plot.{Plot}
 use Rattle.runoff.specs.declared.Soils.{Soils}
 use Rattle.runoff.proofs.Record.{weighted_within}
+use Rattle.runoff.proofs.Rounding.{natural_within}
 use Rattle.runoff.proofs.Walking.{walked_from_none}
 use Rattle.window.specs.Window.{year_of, window, window_runoff, window_count, place_limit}
-use Rattle.window.specs.Moving.{mean_at, means_of, Movable}
+use Rattle.window.specs.Moving.{window_sum, mean_at, means_of, Movable}
 use Rattle.window.specs.Handed.{SoilInside, RainInside, Handed}
-use Rattle.window.proofs.Sums.{length_window}
+use Rattle.window.proofs.Sums.{length_window, window_within}
 
 -- The sum of years of rain in tenths is the sum of what each gives.
 tenths_sum : (A S : ℕ) (years : List ℕ) → years_sum A S (map year_of years) ≡ pos (sum_by (rain_year A S) years)
@@ -69,3 +70,15 @@ means_runoffs plots years width h =
     table_same place_limit 0 (window_count years width) _ _
     (omega (arith, h.years_to, h.width_from))
     (λ k l. mean_runoff plots years width k (omega (arith, h.plots_from)) (omega (arith, h.years_from)))
+
+-- The natural runoff of a window is at most 10,000,000.
+pub window_runoff_within : (plots : List Plot) (years : List ℕ) (width i : ℕ) → Handed plots years width → i + width ≤ length years
+    → window_runoff plots years width i ≤ 10000000
+window_runoff_within plots years width i h g =
+    let sum = window_sum (walked no_soils plots) years width i in
+    omega (
+      arith,
+      mean_runoff plots years width i (omega (arith, h.plots_from)) g,
+      natural_within false width (pos sum) (omega (arith, h.width_from))
+          (omega (arith, window_within (walked no_soils plots) years width i (handed_movable plots years width h).yielding g)),
+    )

@@ -1,14 +1,60 @@
 -- What the moving window promises. Assumes nothing.
-use Rattle.std.proofs.Common.{◌≡◌, ◌∙◌, ℕ, ◌<◌, List, length, take, sym, ap, arith, Err}
+use mathlib.Core.Logic.{◌↔◌}
+use mathlib.Core.Path.{subst⁻¹}
+use lib.ListN.{length-replicate}
+use Rattle.std.proofs.Common.{◌≡◌, ◌∙◌, ℕ, ◌<◌, List, length, take, sym, ap, refl, arith, ◌≤◌, Ok, Err, get_or}
 use Rattle.std.proofs.lemmas.Bool.{lt-ltb, le-ltb, ne_eqb}
 use Rattle.std.proofs.lemmas.List.{take_all, length-take-le}
+use Rattle.laws.proofs.Arrays.{get_or_empty, table_filled}
 use Rattle.laws.proofs.Cases.{by_bool, by_lt}
 use Rattle.model.specs.declared.Refusal.{Refusal}
 use Rattle.model.specs.declared.Refusal.TheVariants.{BadWindow, TooMany}
 use Rattle.model.specs.Answers.{Answer, refuse}
+use Rattle.model.proofs.Answers.{by_answer}
 use Rattle.runoff.specs.declared.Plot.{Plot}
 use Rattle.window.specs.Refused.{bad_window, windows_refusal}
-use Rattle.window.specs.Window.{windows_reply, replied}
+use Rattle.window.specs.Window.{window_runoff, window_count, place_limit, windows_reply, replied}
+use Rattle.window.specs.Handed.{Handed, EachWindow, NoWindow}
+use Rattle.window.proofs.Accepted.{accepted_handed, handed_accepted}
+use Rattle.window.proofs.Means.{window_runoff_within}
+
+-- The answer of a reply is the answer that it is made from.
+replied_answer : (a : Answer) (plots : List Plot) (years : List ℕ) (width : ℕ) → (replied a plots years width).answer ≡ a
+replied_answer (Ok u) plots years width = refl
+replied_answer (Err r) plots years width = refl
+
+module _ (plots : List Plot) (years : List ℕ) (width : ℕ) where
+  -- Accepted is exactly what may be handed in.
+  pub accepted_exactly : ((windows_reply plots years width).answer ≡ Ok tt) ↔ Handed plots years width
+  accepted_exactly =
+      let answer = replied_answer (windows_refusal plots years width) plots years width in
+      (λ e. accepted_handed plots years width (sym answer ∙ e), λ h. answer ∙ handed_accepted plots years width h)
+
+  -- An accepted reply gives the natural runoff of each window.
+  pub each_window : (windows_reply plots years width).answer ≡ Ok tt → EachWindow plots years width (windows_reply plots years width)
+  each_window e =
+      let h = accepted_exactly.0 e in
+      let p = table_filled place_limit 0 (window_count years width) (window_runoff plots years width) (omega (arith, h.years_to, h.width_from)) in
+      subst⁻¹ (λ (a : Answer). EachWindow plots years width (replied a plots years width)) (handed_accepted plots years width h)
+      (record { number = refl; count = omega (arith, h.years_from); places = p.long; each = p.done; unused = p.rest })
+
+  -- A refused reply gives none.
+  pub no_window : (r : Refusal) → (windows_reply plots years width).answer ≡ Err r → NoWindow (windows_reply plots years width)
+  no_window r e =
+      subst⁻¹ (λ (a : Answer). NoWindow (replied a plots years width))
+      (sym (replied_answer (windows_refusal plots years width) plots years width) ∙ e)
+      (record { number = refl; count = refl; places = length-replicate {A = ℕ} place_limit 0; unused = λ i. get_or_empty {A = ℕ} place_limit i 0 })
+
+  -- No place holds more than 10,000,000.
+  pub runoff_within : (i : ℕ) → get_or (windows_reply plots years width).runoffs i 0 ≤ 10000000
+  runoff_within i =
+      by_answer (windows_reply plots years width).answer
+      (λ e. let w = each_window e in
+      let h = accepted_exactly.0 e in
+      by_lt i (windows_reply plots years width).count
+      (λ l. let m = window_runoff_within plots years width i h (omega (arith, w.count, h.years_from)) in omega (arith, w.each i l))
+      (λ l. omega (arith, w.unused i l)))
+      (λ r e. omega (arith, (no_window r e).unused i))
 
 -- A record of more than 200 years, and more than 16 soil records, are refused whatever else is handed in.
 long_refused : (plots : List Plot) (years : List ℕ) (width : ℕ) → 200 < length years → windows_refusal plots years width ≡ Err BadWindow

@@ -33,7 +33,7 @@ years_within soils years y =
     (All-weaker _ _ (λ p h. rain_within soils.area soils.weighted p (record { area_to = y.area; weighted_to = y.weighted; rain_to = h })) years y.rain)
 
 -- A window of such a record is such a record.
-pub yielding_window : (soils : Soils) (years : List ℕ) (width i : ℕ) → Yielding soils years → Yielding soils (window width years i)
+yielding_window : (soils : Soils) (years : List ℕ) (width i : ℕ) → Yielding soils years → Yielding soils (window width years i)
 yielding_window soils years width i y =
     record {
       area = y.area;
