@@ -1,0 +1,2 @@
+-- The proofs that each value of a moving window is what a book of its years gives.
+pub mod Bytes

@@ -1,0 +1,2 @@
+-- What each value of a moving window is by the books, and worked records.
+pub mod Windows
