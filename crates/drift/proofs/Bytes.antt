@@ -55,3 +55,39 @@ module _ (s : List ℕ) (at : ℕ) (t : List ℕ) (left : drop at s ≡ t) where
       let more : length s - at ≡ 1 → ⊥ = λ q. omega (arith, left_length) in
       rw (ne_eqb (length s - at) 0 some, ne_eqb (length s - at) 1 more)
       (ap (λ (o : Option Mark). entry_marked o s at) mark ∙ whole ∙ rw (le-ltb (length s - at) size (omega (arith, left_length))))
+
+  -- An SU of a soil record, and a PD of a year's rain, are read as these.
+  module _ (rest : List ℕ) where
+    pub soil_stands : (p : Plot) → t ≡ soil_bytes p.cover p.soil p.hectares ++ rest → entry_at s at ≡ stands (soil_entry p) (at + 8)
+    soil_stands p e =
+        stands_marked 8 Su (soil_entry p) (omega arith) (omega (arith, ap length e))
+        (ap₂ mark_of (byte 0 at (omega arith)) (byte 1 (at + 1) refl))
+        (ap (λ (q : Plot). whole_entry s at 8 (soil_entry q)) same)
+      where
+        byte : (k i : ℕ) → i ≡ at + k → get_or s i 0 ≡ get_or (soil_bytes p.cover p.soil p.hectares ++ rest) k 0
+        byte k i q = left_at k i q ∙ ap (λ (l : List ℕ). get_or l k 0) e
+
+        same : plot_at s at ≡ p
+        same = λ i.
+            record {
+              cover = byte 2 (at + 2) refl i;
+              soil = byte 3 (at + 3) refl i;
+              hectares = (hectares ∙ read32 p.hectares) i;
+            }
+          where
+            hectares : bits32 s (at + 4) ≡ bits32 (soil_bytes p.cover p.soil p.hectares ++ rest) 4
+            hectares = λ i.
+                byte 4 (at + 4) refl i + 256 * byte 5 (at + 4 + 1) (omega arith) i
+                + 65536 * (byte 6 (at + 4 + 2) (omega arith) i + 256 * byte 7 (at + 4 + 2 + 1) (omega arith) i)
+
+    pub year_stands : (p : ℕ) → t ≡ rain_bytes (tenths p) ++ rest → entry_at s at ≡ stands (year_entry (year_of p)) (at + 4)
+    year_stands p e =
+        stands_marked 4 Pd (year_entry (year_of p)) (omega arith) (omega (arith, ap length e))
+        (ap₂ mark_of (byte 0 at (omega arith)) (byte 1 (at + 1) refl))
+        (ap (λ (q : ℕ). whole_entry s at 4 (year_entry (year_of q))) same)
+      where
+        byte : (k i : ℕ) → i ≡ at + k → get_or s i 0 ≡ get_or (rain_bytes (tenths p) ++ rest) k 0
+        byte k i q = left_at k i q ∙ ap (λ (l : List ℕ). get_or l k 0) e
+
+        same : bits16 s (at + 2) ≡ p
+        same = (λ i. byte 2 (at + 2) refl i + 256 * byte 3 (at + 2 + 1) (omega arith) i) ∙ read16 p
