@@ -2,3 +2,4 @@
 pub mod Bytes
 pub mod Growing
 pub mod Books
+pub mod Windows

@@ -10,11 +10,14 @@ use Rattle.cases.specs.OneUnit.{rain_book, opens_one}
 use Rattle.window.specs.Window.{year_of, window, window_count, windows_reply}
 use Rattle.window.specs.Refused.{soils_outside, rains_outside}
 
--- The book of one unit with 0 in all its entries, these soil records and these years' rain, each a PD, is accepted, and the unit's natural
--- runoff is this.
-abbrev pub BookGives : List Plot → List ℕ → ℕ → Type 0
-BookGives plots years runoff =
-    opened (rain_book plots (map tenths years)) ≡ opens_one (31 + 8 * length plots + 4 * length years) runoff
+-- The book of one unit with 0 in all its entries, these soil records and these years' rain, each a PD, is accepted; it has so many bytes,
+-- and the unit's natural runoff is this.
+abbrev pub BookGives : List Plot → List ℕ → ℕ → ℕ → Type 0
+BookGives plots years size runoff = opened (rain_book plots (map tenths years)) ≡ opens_one size runoff
+
+-- A UN has 31 bytes, an SU 8 and a PD 4.
+abbrev pub book_size : ℕ → ℕ → ℕ
+book_size plots years = 31 + 8 * plots + 4 * years
 
 -- What such a book may hold: 1 to 16 soil records of at most 300,000 hectares in all, and 20 to 50 years, each inside its values.
 pub record Bookable (plots : List Plot) (years : List ℕ) : Type 0 where
@@ -26,9 +29,10 @@ pub record Bookable (plots : List Plot) (years : List ℕ) : Type 0 where
   pub short : length years ≤ 50
   pub rains : rains_outside years ≡ false
 
--- Such a book gives the mean of its years, as any unit's natural runoff is.
+-- The book gives the mean of its years, as any unit's natural runoff is.
 abbrev pub OneUnitBook : List Plot → List ℕ → Type 0
-OneUnitBook plots years = Bookable plots years → BookGives plots years (runoff_of plots (map year_of years))
+OneUnitBook plots years =
+    Bookable plots years → BookGives plots years (book_size (length plots) (length years)) (runoff_of plots (map year_of years))
 
 -- The call is accepted, and it has a window with this index, the oldest having 0.
 pub record HasWindow (plots : List Plot) (years : List ℕ) (width i : ℕ) : Type 0 where
@@ -39,13 +43,14 @@ pub record HasWindow (plots : List Plot) (years : List ℕ) (width i : ℕ) : Ty
 abbrev pub value : List Plot → List ℕ → ℕ → ℕ → ℕ
 value plots years width i = get_or (windows_reply plots years width).runoffs i 0
 
--- The years that a book of this window holds: from the i-th on, as many as the window is wide.
+-- The years that a book of this window holds: as many as the window is wide, from the one with this index on.
 abbrev pub years_in : List ℕ → ℕ → ℕ → List ℕ
 years_in years width i = window width years i
 
 -- Each value is the natural runoff that a book holding just the window's years gives.
 abbrev pub WindowAsABook : List Plot → List ℕ → ℕ → ℕ → Type 0
-WindowAsABook plots years width i = HasWindow plots years width i → BookGives plots (years_in years width i) (value plots years width i)
+WindowAsABook plots years width i =
+    HasWindow plots years width i → BookGives plots (years_in years width i) (book_size (length plots) width) (value plots years width i)
 
 -- In an accepted book, of any units, aquifers and entries, a unit has just these soil records and the window's years.
 pub record HoldsWindow (s : List ℕ) (d : Description) (k : ℕ) (plots : List Plot) (years : List ℕ) : Type 0 where
