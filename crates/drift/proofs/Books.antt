@@ -1,42 +1,38 @@
 -- A book of one unit opens a balance of that unit. Assumes nothing.
-use Rattle.std.specs.Prelude.{Option, Some, None, Ok}
-use Prim.Native.Nat.{ℕ, zero, suc, ◌+◌, ◌-◌, ◌*◌, ◌≤◌, ◌<◌}
-use mathlib.Core.Path.{◌≡◌, refl, sym, ap, ◌∙◌}
+use Rattle.std.specs.Prelude.{None, Ok}
+use Prim.Native.Nat.{ℕ, suc, ◌+◌, ◌-◌, ◌≤◌, ◌<◌}
+use mathlib.Core.Path.{◌≡◌, refl, ap, ◌∙◌}
 use mathlib.Core.Bool.{Bool, true, false, not}
 use mathlib.Core.List.{List, [], ◌∷◌, ◌++◌, map}
-use lib.Dec.{ltb}
 use lib.Signed.{non_neg}
 use lib.IntN.{pos, ◌+ℤ◌}
 use lib.ListN.{length, get_or, length-map, replicate}
 use native.Mathlib.Omega.{arith}
 use borrow.Author.Tests.{le-ltb, ne_eqb}
+use Rattle.laws.specs.Sum.{sum_of}
 use Rattle.laws.specs.Table.{tabulate, table}
-use Rattle.laws.specs.Sum.{integers, sum_of}
-use Rattle.laws.specs.Gather.{gather, gather_to}
 use Rattle.laws.proofs.Arrays.{get_or_table}
 use Rattle.laws.proofs.Parts.{less_pos, less_plus, less_non_neg}
 use Rattle.model.specs.declared.Unit.{Unit as BasinUnit}
-use Rattle.model.specs.Answers.{first_from}
+use Rattle.model.specs.Answers.{first_from, first}
 use Rattle.model.specs.Fresh.{empty_unit, empty_aquifer, empty_place}
-use Rattle.model.specs.View.{View, view_of}
+use Rattle.model.specs.View.{view_of}
 use Rattle.runoff.specs.declared.Plot.{Plot}
-use Rattle.runoff.specs.Record.{Year, area_of, runoff_of, sum_on}
+use Rattle.runoff.specs.Record.{Year, area_of, runoff_of}
 use Rattle.river.specs.Flow.{net, flow}
-use Rattle.river.proofs.Flows.{net_parts}
-use Rattle.river.proofs.Firsts.{first_nothing}
+use Rattle.river.proofs.Flows.{flow_is, net_parts}
 use Rattle.record.specs.Described.{no_unit, summed, unit_of}
 use Rattle.record.specs.Entries.{unit_entry, stands, entry_at}
 use Rattle.record.specs.Fault.{closing_fault}
-use Rattle.book.specs.declared.Opened.{Opened}
-use Rattle.book.specs.Reading.{Description, last_sums, balance_of, Outcome, read, missing, negative, ended, clear, entry_verdict, reading_from, reading, opened_as}
+use Rattle.book.specs.Reading.{Description, balance_of, read, missing, negative, ended, reading_from, reading, opened_as}
 use Rattle.book.proofs.Entries.{reads_clear}
 use Rattle.cases.specs.Printed.{unit_bytes, tenths}
-use Rattle.cases.specs.OneUnit.{plots_bytes, rains_bytes, rain_book, unit_with, opens_one}
+use Rattle.cases.specs.OneUnit.{plots_bytes, rains_bytes, rain_book, opens_one}
 use Rattle.window.specs.Window.{year_of}
 use Rattle.drift.specs.Windows.{Bookable, book_size, OneUnitBook}
 use Rattle.drift.proofs.Growing.{outlet, alone, soils_read}
 
--- The UN at the start of the book, which is not refused.
+-- The UN at the start of the book.
 unit_stands : (rest : List ℕ) → entry_at (unit_bytes 0 0 0 ++ rest) 0 ≡ stands (unit_entry (outlet [] [])) 31
 unfolding entry_at
 unit_stands rest =
@@ -45,8 +41,10 @@ unit_stands rest =
     rw (ne_eqb (length s - 0) 0 (λ e. omega (arith, long)), ne_eqb (length s - 0) 1 (λ e. omega (arith, long)))
     (rw (le-ltb (length s - 0) 31 (omega (arith, long))))
 
-unit_clear : entry_verdict (record { units = []; aquifers = [] }) (unit_entry (outlet [] [])) 0 ≡ clear
-unit_clear = refl
+-- Of one place, the first at which a test holds is none where it fails there.
+first_of_one : (t : ℕ → Bool) → t 0 ≡ false → first 1 t ≡ None
+unfolding first_from
+first_of_one t e = rw (e, first_from)
 
 module _ (plots : List Plot) (years : List Year) where
   -- The balance's first unit, and its flow: with 0 in all entries it is not negative.
@@ -54,13 +52,10 @@ module _ (plots : List Plot) (years : List Year) where
   first_unit =
       get_or_table 64 empty_unit 1 (λ k. unit_of (get_or (outlet plots years ∷ []) k no_unit)) 0 (omega arith) (omega arith)
 
-  lone_flow : (v : View) → flow v 0 ≡ pos 0 +ℤ net (v.unit 0)
-  unfolding flow gather gather_to
-  lone_flow v = refl
-
   flows : non_neg (flow (view_of (balance_of (alone plots years))) 0) ≡ true
+  unfolding sum_of
   flows =
-      ap non_neg (lone_flow (view_of (balance_of (alone plots years))) ∙ ap (λ (u : BasinUnit). pos 0 +ℤ net u) first_unit)
+      ap non_neg (flow_is (view_of (balance_of (alone plots years))) 0 ∙ ap (λ (u : BasinUnit). pos 0 +ℤ net u) first_unit)
       ∙ less_non_neg (less_plus (less_pos 0) (net_parts (unit_of (outlet plots years)))) (omega arith)
 
   -- The end of the description finds no fault.
@@ -68,18 +63,10 @@ module _ (plots : List Plot) (years : List Year) where
   closes soiled enough = rw (le-ltb (length years) 20 enough, ne_eqb (length plots) 0 (λ e. omega arith))
 
   no_missing : missing (alone plots years) ≡ None
-  no_missing = first_nothing _ 1 (λ k h. by_zero k h)
-    where
-      by_zero : (k : ℕ) → k < 1 → ltb 1 (get_or (outlet plots years ∷ []) k no_unit).downstream ≡ false
-      by_zero zero h = refl
-      by_zero (suc k) h = absurd (omega arith)
+  no_missing = first_of_one _ refl
 
   no_negative : negative (balance_of (alone plots years)) (alone plots years) ≡ None
-  no_negative = first_nothing _ 1 (λ k h. by_zero k h)
-    where
-      by_zero : (k : ℕ) → k < 1 → not (non_neg (flow (view_of (balance_of (alone plots years))) k)) ≡ false
-      by_zero zero h = ap not flows
-      by_zero (suc k) h = absurd (omega arith)
+  no_negative = first_of_one _ (ap not flows)
 
   all_kept : (at : ℕ) → 0 < length plots → 20 ≤ length years → ended (alone plots years) at ≡ read (alone plots years) at
   all_kept at soiled enough = rw (closes soiled enough, no_missing, no_negative)
@@ -115,19 +102,17 @@ module _ (plots : List Plot) (years : List ℕ) where
   abbrev rest : List ℕ
   rest = plots_bytes plots ++ rains_bytes (map tenths years)
 
-  pub reads_whole : Bookable plots years
+  reads_whole : Bookable plots years
       → reading (rain_book plots (map tenths years)) ≡ ended (alone plots (map year_of years)) (book_size (length plots) (length years))
   unfolding area_of
   reads_whole b =
       let s : List ℕ = unit_bytes 0 0 0 ++ rest in
-      let long : length s ≡ 31 + length rest = omega arith in
-      ap (λ (n : ℕ). reading_from n s 0 (record { units = []; aquifers = [] })) (enough long)
-      ∙ reads_clear (32 + length rest - 1) s 0 (record { units = []; aquifers = [] }) (unit_entry (outlet [] [])) 31 (unit_stands rest) unit_clear
-      ∙ soils_read (32 + length rest - 1) s 31 [] plots years (omega (arith, long)) refl (omega (arith, b.soiled)) (omega (arith, b.few)) b.soils
+      let none : Description = record { units = []; aquifers = [] } in
+      let enough : length s + 1 ≡ suc (31 + length rest) = omega arith in
+      ap (λ (n : ℕ). reading_from n s 0 none) enough
+      ∙ reads_clear (31 + length rest) s 0 none (unit_entry (outlet [] [])) 31 (unit_stands rest) refl
+      ∙ soils_read (31 + length rest) s 31 [] plots years (omega (arith, enough)) refl (omega (arith, b.soiled)) (omega (arith, b.few)) b.soils
       (omega (arith, b.area)) b.short b.rains
-    where
-      enough : length (unit_bytes 0 0 0 ++ rest) ≡ 31 + length rest → length (unit_bytes 0 0 0 ++ rest) + 1 ≡ suc (32 + length rest - 1)
-      enough long = omega arith
 
   pub one_unit_book : OneUnitBook plots years
   one_unit_book b =

@@ -1,23 +1,22 @@
 -- A record's bytes, where they stand, are read as that record. Assumes nothing.
-use Rattle.std.specs.Prelude.{Option, Some, None}
-use Prim.Native.Nat.{ℕ, zero, suc, ◌+◌, ◌-◌, ◌*◌, ◌/◌, ◌%◌, ◌≤◌, ◌<◌}
+use Rattle.std.specs.Prelude.{Option, Some}
+use Prim.Native.Nat.{ℕ, ◌+◌, ◌-◌, ◌*◌, ◌/◌, ◌%◌, ◌≤◌}
 use mathlib.Core.Path.{◌≡◌, refl, sym, ap, ap₂, ◌∙◌}
-use mathlib.Core.List.{List, [], ◌∷◌, ◌++◌}
+use mathlib.Core.List.{List, ◌++◌}
 use lib.ListN.{length, get_or, drop, length-drop}
 use lib.Seq.{get_or-drop, drop-drop}
 use native.Mathlib.Nat.{mod-add-div}
 use native.Mathlib.Omega.{arith}
 use borrow.Author.Tests.{le-ltb, eq-eqb, ne_eqb}
 use Rattle.runoff.specs.declared.Plot.{Plot}
-use Rattle.runoff.specs.Record.{of_rain}
 use Rattle.record.specs.declared.Mark.{Mark}
 use Rattle.record.specs.declared.Mark.TheVariants.{Su, Pd}
 use Rattle.record.specs.Bytes.{bits8, bits16, bits32}
 use Rattle.record.specs.Record.{mark_of}
 use Rattle.record.specs.Described.{plot_at}
-use Rattle.record.specs.Entries.{Entry, soil_entry, year_entry, EntryAt, no_entry, stands, whole_entry, entry_marked, entry_at}
+use Rattle.record.specs.Entries.{Entry, soil_entry, year_entry, no_entry, stands, whole_entry, entry_marked, entry_at}
 use Rattle.window.specs.Window.{year_of}
-use Rattle.cases.specs.Printed.{bytes16, bytes32, soil_bytes, tenths, rain_bytes}
+use Rattle.cases.specs.Printed.{soil_bytes, tenths, rain_bytes}
 
 -- 16 and 32 bits read back.
 module _ (n : ℕ) where

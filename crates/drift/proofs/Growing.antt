@@ -1,7 +1,6 @@
 -- A book of one unit is read record by record: its UN, its soil records and its rain years. Assumes nothing.
-use Rattle.std.specs.Prelude.{Option, Some, None, Ok}
 use Prim.Native.Nat.{ℕ, zero, suc, ◌+◌, ◌-◌, ◌*◌, ◌≤◌, ◌<◌}
-use mathlib.Core.Path.{◌≡◌, refl, sym, ap, ◌∙◌}
+use mathlib.Core.Path.{◌≡◌, refl, sym, ◌∙◌}
 use mathlib.Core.Bool.{false}
 use mathlib.Core.List.{List, [], ◌∷◌, ◌++◌, map, append_assoc, append-nil}
 use lib.ListN.{length, drop, length-append}
@@ -15,7 +14,7 @@ use Rattle.runoff.proofs.Record.{area_of_more}
 use Rattle.record.specs.Described.{DescribedUnit}
 use Rattle.record.specs.Entries.{soil_entry, year_entry}
 use Rattle.record.specs.Fault.{soil_outside, rain_outside}
-use Rattle.book.specs.Reading.{Description, Outcome, clear, entry_verdict, ended, reading_from}
+use Rattle.book.specs.Reading.{Description, clear, entry_verdict, ended, reading_from}
 use Rattle.book.proofs.Entries.{reads_end, reads_clear}
 use Rattle.cases.specs.Printed.{tenths}
 use Rattle.cases.specs.OneUnit.{plots_bytes, rains_bytes}
@@ -44,13 +43,6 @@ outlet plots years =
 abbrev pub alone : List Plot → List Year → Description
 alone plots years = record { units = outlet plots years ∷ []; aquifers = [] }
 
--- One element more at the end of those read, or first among those that are left.
-moved : {A : Type 0} (xs : List A) (x : A) (ys : List A) → (xs ++ (x ∷ [])) ++ ys ≡ xs ++ (x ∷ ys)
-moved xs x ys = append_assoc xs (x ∷ []) ys
-
-one_more : {A : Type 0} (xs : List A) (x : A) → length (xs ++ (x ∷ [])) ≡ length xs + 1
-one_more xs x = length-append xs (x ∷ [])
-
 -- An SU is not refused before any year, while there are fewer than 16 and the hectares stay inside; a PD is not after an SU, while there are fewer than 50 years.
 soil_clear : (plots : List Plot) (p : Plot) (at : ℕ) → length plots < 16 → soil_outside p.cover p.soil p.hectares ≡ false → area_of plots + p.hectares ≤ 300000
     → entry_verdict (alone plots []) (soil_entry p) at ≡ clear
@@ -75,8 +67,8 @@ years_read (suc g) s at plots years (p ∷ left) h e soiled few inside =
     reads_clear g s at (alone plots years) (year_entry (year_of p)) (at + 4) (year_stands s at _ e (rains_bytes (map tenths left)) p refl)
     (year_clear plots years p at soiled (omega arith) (or_left (rain_outside Tenths p) _ inside))
     ∙ years_read g s (at + 4) plots (years ++ (year_of p ∷ [])) left (omega (arith, left_length s at _ e)) (left_on s at _ e 4) soiled
-    (omega (arith, one_more years (year_of p))) (or_right (rain_outside Tenths p) _ inside)
-    ∙ (λ i. ended (alone plots (moved years (year_of p) (map year_of left) i)) (later i))
+    (omega (arith, length-append years (year_of p ∷ []))) (or_right (rain_outside Tenths p) _ inside)
+    ∙ (λ i. ended (alone plots (append_assoc years (year_of p ∷ []) (map year_of left) i)) (later i))
   where
     later : at + 4 + 4 * length left ≡ at + 4 * suc (length left)
     later = omega arith
@@ -99,9 +91,9 @@ soils_read (suc g) s at plots (p ∷ left) years h e soiled few inside area shor
     reads_clear g s at (alone plots []) (soil_entry p) (at + 8) (soil_stands s at _ e rest p refl)
     (soil_clear plots p at (omega arith) (or_left (soil_outside p.cover p.soil p.hectares) _ inside) (omega arith))
     ∙ soils_read g s (at + 8) (plots ++ (p ∷ [])) left years (omega (arith, left_length s at _ e)) (left_on s at _ e 8)
-    (omega (arith, one_more plots p)) (omega (arith, one_more plots p)) (or_right (soil_outside p.cover p.soil p.hectares) _ inside)
+    (omega (arith, length-append plots (p ∷ []))) (omega (arith, length-append plots (p ∷ []))) (or_right (soil_outside p.cover p.soil p.hectares) _ inside)
     (omega (arith, area_of_more plots p)) short rains
-    ∙ (λ i. ended (alone (moved plots p left i) (map year_of years)) (later i))
+    ∙ (λ i. ended (alone (append_assoc plots (p ∷ []) left i) (map year_of years)) (later i))
   where
     later : at + 8 + 8 * length left + 4 * length years ≡ at + 8 * suc (length left) + 4 * length years
     later = omega arith

@@ -2,8 +2,8 @@
 use Rattle.std.specs.Prelude.{Ok, Err}
 use Rattle.std.specs.List.{list_any}
 use Rattle.std.proofs.lemmas.List.Folds.{list_any-append}
-use Prim.Native.Nat.{ℕ, ◌+◌, ◌-◌, ◌≤◌, ◌<◌}
-use mathlib.Core.Path.{◌≡◌, refl, sym, ap, subst⁻¹, ◌∙◌}
+use Prim.Native.Nat.{ℕ, ◌≤◌}
+use mathlib.Core.Path.{◌≡◌, refl, sym, ap, ◌∙◌}
 use mathlib.Core.Bool.{Bool, false, ◌||◌}
 use mathlib.Core.List.{List, map}
 use lib.Dec.{eqb, ltb}
@@ -26,9 +26,9 @@ use Rattle.record.proofs.Faults.{or_left, or_right}
 use Rattle.book.specs.Reading.{Description, balance_of, opened}
 use Rattle.book.proofs.Promises.{opening_sound, accepted_exactly}
 use Rattle.cases.specs.OneUnit.{opens_one}
-use Rattle.window.specs.Window.{year_of, window, window_count, window_runoff, replied, windows_reply}
+use Rattle.window.specs.Window.{year_of, window_count, window_runoff, replied}
 use Rattle.window.specs.Refused.{bad_window, soils_outside, rains_outside, windows_refusal}
-use Rattle.drift.specs.Windows.{Bookable, BookGives, book_size, HasWindow, value, years_in, WindowAsABook, HoldsWindow, opened_runoff, WindowInBooks}
+use Rattle.drift.specs.Windows.{Bookable, book_size, HasWindow, value, years_in, WindowAsABook, HoldsWindow, opened_runoff, WindowInEveryBook}
 use Rattle.drift.proofs.Books.{one_unit_book}
 
 -- What an accepted call satisfies.
@@ -132,5 +132,5 @@ opened_unit s d k plots years h =
     few : length d.units ≤ 64
     few = omega (arith, (soundness (view_of (opened s).balance) (opening_sound s)).few_units, ap (λ (b : Balance). b.unit_count) same)
 
-pub window_in_books : (plots : List Plot) (years : List ℕ) (width i : ℕ) → WindowInBooks plots years width i
-window_in_books plots years width i h s d k b = opened_unit s d k plots (years_in years width i) b ∙ sym (value_is plots years width i h)
+pub window_in_every_book : (plots : List Plot) (years : List ℕ) (width i : ℕ) → WindowInEveryBook plots years width i
+window_in_every_book plots years width i h s d k b = opened_unit s d k plots (years_in years width i) b ∙ sym (value_is plots years width i h)

@@ -1,9 +1,9 @@
 -- A moving window gives what books of its years give. Assumes nothing.
-use Rattle.std.specs.Prelude.{ℕ, ◌+◌, ◌-◌, ◌*◌, ◌≤◌, ◌<◌, ◌≡◌, false, List, map, length, get_or, Ok}
+use Rattle.std.specs.Prelude.{ℕ, ◌+◌, ◌*◌, ◌≤◌, ◌<◌, ◌≡◌, false, List, map, length, get_or, Ok}
 use Rattle.model.specs.Fresh.{empty_unit}
 use Rattle.runoff.specs.declared.Plot.{Plot}
 use Rattle.runoff.specs.Record.{area_of, runoff_of}
-use Rattle.record.specs.Described.{DescribedUnit, no_unit}
+use Rattle.record.specs.Described.{no_unit}
 use Rattle.book.specs.Reading.{Description, read, reading, opened}
 use Rattle.cases.specs.Printed.{tenths}
 use Rattle.cases.specs.OneUnit.{rain_book, opens_one}
@@ -65,7 +65,7 @@ abbrev pub opened_runoff : List ℕ → ℕ → ℕ
 opened_runoff s k = (get_or (opened s).balance.units k empty_unit).runoff
 
 -- Each value is the natural runoff of every unit of every book that has just the window's years on these soils.
-abbrev pub WindowInBooks : List Plot → List ℕ → ℕ → ℕ → Type 0
-WindowInBooks plots years width i =
+abbrev pub WindowInEveryBook : List Plot → List ℕ → ℕ → ℕ → Type 0
+WindowInEveryBook plots years width i =
     HasWindow plots years width i → (s : List ℕ) (d : Description) (k : ℕ) → HoldsWindow s d k plots (years_in years width i)
     → opened_runoff s k ≡ value plots years width i
