@@ -2,3 +2,4 @@
 pub mod Window
 pub mod Refused
 pub mod Moving
+pub mod Handed

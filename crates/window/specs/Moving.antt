@@ -18,10 +18,13 @@ window_sum soils years width i = years_on soils (window width years i)
 abbrev pub mean_of : ℕ → ℕ → ℕ
 mean_of width sum = natural_runoff false width (pos sum)
 
+-- The mean of the window that begins at an index.
+abbrev pub mean_at : Soils → List ℕ → ℕ → ℕ → ℕ
+mean_at soils years width i = mean_of width (window_sum soils years width i)
+
 -- The means of all windows, and 0 in the unused places.
 abbrev pub means_of : Soils → List ℕ → ℕ → List ℕ
-means_of soils years width =
-    table place_limit 0 (window_count years width) (λ i. mean_of width (window_sum soils years width i))
+means_of soils years width = table place_limit 0 (window_count years width) (mean_at soils years width)
 
 -- Soils of at most 300,000 hectares and rain years of at most 21,500 tenths.
 pub record Yielding (soils : Soils) (years : List ℕ) : Type 0 where

@@ -35,11 +35,9 @@ fn rains_outside(tenths: &[u16]) -> bool
 
 // The first refusal that applies, or else the two sums of the soil records, which are walked once.
 pub(crate) fn decide(plots: &[Plot], tenths: &[u16], width: usize) -> Result<Soils, Refusal>
-    ensures {
-        MatchResult result
-            (λ soils. (refused.windows_refusal plots.now tenths.now width ≡ accepted) × (soils ≡ walked no_soils plots.now))
-            (λ r. refused.windows_refusal plots.now tenths.now width ≡ Err r)
-    }
+    ensures { MatchResult result
+        (λ soils. (refused.windows_refusal plots.now tenths.now width ≡ accepted) × (soils ≡ walked no_soils plots.now))
+        (λ r. refused.windows_refusal plots.now tenths.now width ≡ Err r) }
 {
     if bad_window(width, tenths.len()) {
         return Err(Refusal::BadWindow);

@@ -28,7 +28,9 @@ impl Windows {
 
     // The shortest and the longest window, and the longest record, in years.
     pub const SHORTEST: usize = 20;
+
     pub const LONGEST: usize = 50;
+
     pub const RECORD: usize = 200;
 
     // The most soil records of a unit.

@@ -1,5 +1,5 @@
 // The window moves on by the year that enters and the year that leaves.
-ghost use Rattle.std.specs.Prelude.{◌≡◌, ◌≤◌, ◌<◌, ◌*◌, length};
+ghost use Rattle.std.specs.Prelude.{◌≡◌, ◌≤◌, ◌<◌, ◌+◌, ◌*◌, length};
 ghost use Rattle.window.specs.Moving as moving;
 ghost use Rattle.window.specs.Moving.{Movable, Yielding};
 
@@ -33,19 +33,30 @@ fn mean(width: usize, sum: u64) -> u32
     years.natural_runoff() as u32
 }
 
-// The means of all windows: the first is summed afresh, each other one is the one before with the year that enters and without the year that leaves.
+// The sum of the next window: the one before with the year that enters in place of the year that leaves.
+fn moved(soils: Soils, tenths: &[u16], width: usize, first: usize, sum: u64) -> u64
+    requires movable { Movable soils tenths.now width }
+    requires more { first + width < length tenths.now }
+    requires sum { sum ≡ moving.window_sum soils tenths.now width first }
+    ensures { result ≡ moving.window_sum soils tenths.now width (first + 1) }
+{
+    let enters = soils.rain_year(u64::from(tenths[first + width]));
+    let leaves = soils.rain_year(u64::from(tenths[first]));
+    sum + enters - leaves
+}
+
+// The means of all windows: the first is summed afresh, each other one moves on from the one before.
 pub(crate) fn means(soils: Soils, tenths: &[u16], width: usize) -> [u32; Windows::PLACES]
     requires { Movable soils tenths.now width }
     ensures { result ≡ moving.means_of soils tenths.now width }
 {
+    let last = tenths.len() - width;
     let mut means = [0; Windows::PLACES];
     let mut sum = sum_of(soils, &tenths[..width]);
-    means[0] = mean(width, sum);
-    for first in 1..=tenths.len() - width {
-        let enters = soils.rain_year(u64::from(tenths[first + width - 1]));
-        let leaves = soils.rain_year(u64::from(tenths[first - 1]));
-        sum = sum + enters - leaves;
+    for first in 0..last {
         means[first] = mean(width, sum);
+        sum = moved(soils, tenths, width, first, sum);
     }
+    means[last] = mean(width, sum);
     means
 }
