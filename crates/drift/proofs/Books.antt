@@ -4,6 +4,7 @@ use Prim.Native.Nat.{ℕ, suc, ◌+◌, ◌-◌, ◌≤◌, ◌<◌}
 use mathlib.Core.Path.{◌≡◌, refl, ap, ◌∙◌}
 use mathlib.Core.Bool.{Bool, true, false, not}
 use mathlib.Core.List.{List, [], ◌∷◌, ◌++◌, map}
+use lib.Dec.{eqb, ltb}
 use lib.Signed.{non_neg}
 use lib.IntN.{pos, ◌+ℤ◌}
 use lib.ListN.{length, get_or, length-map, replicate}
@@ -15,6 +16,7 @@ use Rattle.laws.proofs.Arrays.{get_or_table}
 use Rattle.laws.proofs.Parts.{less_pos, less_plus, less_non_neg}
 use Rattle.model.specs.declared.Unit.{Unit as BasinUnit}
 use Rattle.model.specs.Answers.{first_from, first}
+use Rattle.model.proofs.Answers.{pass}
 use Rattle.model.specs.Fresh.{empty_unit, empty_aquifer, empty_place}
 use Rattle.model.specs.View.{view_of}
 use Rattle.runoff.specs.declared.Plot.{Plot}
@@ -29,6 +31,8 @@ use Rattle.book.proofs.Entries.{reads_clear}
 use Rattle.cases.specs.Printed.{unit_bytes, tenths}
 use Rattle.cases.specs.OneUnit.{plots_bytes, rains_bytes, rain_book, opens_one}
 use Rattle.window.specs.Window.{year_of}
+use Rattle.window.specs.Refused.{bad_window, soils_outside, rains_outside}
+use Rattle.window.proofs.Accepted.{handed_accepted}
 use Rattle.drift.specs.Windows.{Bookable, book_size, OneUnitBook}
 use Rattle.drift.proofs.Growing.{outlet, alone, soils_read}
 
@@ -102,6 +106,16 @@ module _ (plots : List Plot) (years : List ℕ) where
   abbrev rest : List ℕ
   rest = plots_bytes plots ++ rains_bytes (map tenths years)
 
+  -- No soil record and no year is outside its values.
+  inside : Bookable plots years → (soils_outside plots ≡ false) × (rains_outside years ≡ false)
+  inside b =
+      let width = pass (bad_window (length years) (length years)) _ _ (handed_accepted plots years (length years) b) in
+      let none = pass (eqb (length plots) 0) _ _ width.on in
+      let many = pass (ltb 16 (length plots)) _ _ none.on in
+      let soils = pass (soils_outside plots) _ _ many.on in
+      let large = pass (ltb 300000 (area_of plots)) _ _ soils.on in
+      (soils.not, (pass (rains_outside years) _ _ large.on).not)
+
   reads_whole : Bookable plots years
       → reading (rain_book plots (map tenths years)) ≡ ended (alone plots (map year_of years)) (book_size (length plots) (length years))
   unfolding area_of
@@ -111,11 +125,11 @@ module _ (plots : List Plot) (years : List ℕ) where
       let enough : length s + 1 ≡ suc (31 + length rest) = omega arith in
       ap (λ (n : ℕ). reading_from n s 0 none) enough
       ∙ reads_clear (31 + length rest) s 0 none (unit_entry (outlet [] [])) 31 (unit_stands rest) refl
-      ∙ soils_read (31 + length rest) s 31 [] plots years (omega (arith, enough)) refl (omega (arith, b.soiled)) (omega (arith, b.few)) b.soils
-      (omega (arith, b.area)) b.short b.rains
+      ∙ soils_read (31 + length rest) s 31 [] plots years (omega (arith, enough)) refl (omega (arith, b.plots_from)) (omega (arith, b.plots_to)) (inside b).0
+      (omega (arith, b.area)) b.width_to (inside b).1
 
   pub one_unit_book : OneUnitBook plots years
   one_unit_book b =
       let size : ℕ = book_size (length plots) (length years) in
-      ap opened_as (reads_whole b ∙ all_kept plots (map year_of years) size b.soiled (omega (arith, b.enough, length-map years year_of)))
+      ap opened_as (reads_whole b ∙ all_kept plots (map year_of years) size b.plots_from (omega (arith, b.width_from, length-map years year_of)))
       ∙ lone_opened plots (map year_of years) size

@@ -1,4 +1,4 @@
--- A book of one unit is read record by record: its UN, its soil records and its rain years. Assumes nothing.
+-- The soil records and the rain years of a book of one unit are read one by one. Assumes nothing.
 use Prim.Native.Nat.{ℕ, zero, suc, ◌+◌, ◌-◌, ◌*◌, ◌≤◌, ◌<◌}
 use mathlib.Core.Path.{◌≡◌, refl, sym, ◌∙◌}
 use mathlib.Core.Bool.{false}
@@ -43,11 +43,12 @@ outlet plots years =
 abbrev pub alone : List Plot → List Year → Description
 alone plots years = record { units = outlet plots years ∷ []; aquifers = [] }
 
--- An SU is not refused before any year, while there are fewer than 16 and the hectares stay inside; a PD is not after an SU, while there are fewer than 50 years.
+-- An SU inside its values is not refused before any year, while there are fewer than 16 and the hectares stay inside.
 soil_clear : (plots : List Plot) (p : Plot) (at : ℕ) → length plots < 16 → soil_outside p.cover p.soil p.hectares ≡ false → area_of plots + p.hectares ≤ 300000
     → entry_verdict (alone plots []) (soil_entry p) at ≡ clear
 soil_clear plots p at few inside area = rw (lt-leb 16 (length plots) few, inside, le-ltb 300000 (area_of plots + p.hectares) area)
 
+-- A PD inside its values is not refused after an SU, while there are fewer than 50 years.
 year_clear : (plots : List Plot) (years : List Year) (p at : ℕ) → 0 < length plots → length years < 50 → rain_outside Tenths p ≡ false
     → entry_verdict (alone plots years) (year_entry (year_of p)) at ≡ clear
 year_clear plots years p at soiled few inside = rw (ne_eqb (length plots) 0 (λ e. omega arith), lt-leb 50 (length years) few, inside)
@@ -73,7 +74,7 @@ years_read (suc g) s at plots years (p ∷ left) h e soiled few inside =
     later : at + 4 + 4 * length left ≡ at + 4 * suc (length left)
     later = omega arith
 
--- The same where soil records are left before the years.
+-- Where soil records are left before the years, reading keeps them too.
 pub soils_read : (g : ℕ) (s : List ℕ) (at : ℕ) (plots left : List Plot) (years : List ℕ) → length s - at < g
     → drop at s ≡ plots_bytes left ++ rains_bytes (map tenths years) → 0 < length plots + length left → length plots + length left ≤ 16
     → soils_outside left ≡ false → area_of plots + area_of left ≤ 300000 → length years ≤ 50 → rains_outside years ≡ false

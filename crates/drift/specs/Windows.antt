@@ -1,14 +1,14 @@
 -- A moving window gives what books of its years give. Assumes nothing.
-use Rattle.std.specs.Prelude.{ℕ, ◌+◌, ◌*◌, ◌≤◌, ◌<◌, ◌≡◌, false, List, map, length, get_or, Ok}
+use Rattle.std.specs.Prelude.{ℕ, ◌+◌, ◌*◌, ◌<◌, ◌≡◌, List, map, length, get_or, Ok}
 use Rattle.model.specs.Fresh.{empty_unit}
 use Rattle.runoff.specs.declared.Plot.{Plot}
-use Rattle.runoff.specs.Record.{area_of, runoff_of}
+use Rattle.runoff.specs.Record.{runoff_of}
 use Rattle.record.specs.Described.{no_unit}
 use Rattle.book.specs.Reading.{Description, read, reading, opened}
 use Rattle.cases.specs.Printed.{tenths}
 use Rattle.cases.specs.OneUnit.{rain_book, opens_one}
 use Rattle.window.specs.Window.{year_of, window, window_count, windows_reply}
-use Rattle.window.specs.Refused.{soils_outside, rains_outside}
+use Rattle.window.specs.Handed.{Handed}
 
 -- The book of one unit with 0 in all its entries, these soil records and these years' rain, each a PD, is accepted; it has so many bytes,
 -- and the unit's natural runoff is this.
@@ -19,15 +19,10 @@ BookGives plots years size runoff = opened (rain_book plots (map tenths years)) 
 abbrev pub book_size : ℕ → ℕ → ℕ
 book_size plots years = 31 + 8 * plots + 4 * years
 
--- What such a book may hold: 1 to 16 soil records of at most 300,000 hectares in all, and 20 to 50 years, each inside its values.
-pub record Bookable (plots : List Plot) (years : List ℕ) : Type 0 where
-  pub soiled : 0 < length plots
-  pub few : length plots ≤ 16
-  pub soils : soils_outside plots ≡ false
-  pub area : area_of plots ≤ 300000
-  pub enough : 20 ≤ length years
-  pub short : length years ≤ 50
-  pub rains : rains_outside years ≡ false
+-- What such a book may hold: 1 to 16 soil records of at most 300,000 hectares in all, and 20 to 50 years, each inside its values. The same
+-- may be handed in for one window of all these years.
+abbrev pub Bookable : List Plot → List ℕ → Type 0
+Bookable plots years = Handed plots years (length years)
 
 -- The book gives the mean of its years, as any unit's natural runoff is.
 abbrev pub OneUnitBook : List Plot → List ℕ → Type 0
