@@ -54,12 +54,14 @@ mixed = replicate 19 (millimetres 500) ++ millimetres 400 ∷ []
 abbrev pub both_marks : List Rain
 both_marks = replicate 10 (millimetres 500) ++ replicate 10 (tenths 4999)
 
--- The years 1971 to 1992 of appendix D.
+-- The years 1971 to 1992 of appendix D, in tenths of a millimetre.
+abbrev pub tequisistlan_tenths : List ℕ
+tequisistlan_tenths =
+    9865 ∷ 7278 ∷ 11633 ∷ 8410 ∷ 7917 ∷ 6240 ∷ 4850 ∷ 8638 ∷ 11162 ∷ 6622 ∷ 11867 ∷ 6921 ∷ 7374 ∷ 10620 ∷ 6624 ∷ 9107 ∷ 6415 ∷ 9633 ∷ 9288
+    ∷ 3929 ∷ 8909 ∷ 8377 ∷ []
+
 abbrev pub tequisistlan_years : List Rain
-tequisistlan_years =
-    map tenths
-    (9865 ∷ 7278 ∷ 11633 ∷ 8410 ∷ 7917 ∷ 6240 ∷ 4850 ∷ 8638 ∷ 11162 ∷ 6622 ∷ 11867 ∷ 6921 ∷ 7374 ∷ 10620 ∷ 6624 ∷ 9107 ∷ 6415 ∷ 9633 ∷ 9288
-    ∷ 3929 ∷ 8909 ∷ 8377 ∷ [])
+tequisistlan_years = map tenths tequisistlan_tenths
 
 -- A gauged year with this storage change, and another number in each field.
 abbrev pub year_with : ℤ → Gauged
@@ -80,11 +82,11 @@ abbrev pub gauges : List Gauged
 gauges = replicate 19 (year_with (negsuc 7)) ++ year_with (pos 2) ∷ []
 
 -- The bytes of soil records, of rain years and of gauged years.
-abbrev plots_bytes : List Plot → List ℕ
+abbrev pub plots_bytes : List Plot → List ℕ
 plots_bytes [] = []
 plots_bytes (p ∷ plots) = soil_bytes p.cover p.soil p.hectares ++ plots_bytes plots
 
-abbrev rains_bytes : List Rain → List ℕ
+abbrev pub rains_bytes : List Rain → List ℕ
 rains_bytes [] = []
 rains_bytes (r ∷ years) = rain_bytes r ++ rains_bytes years
 
