@@ -164,19 +164,27 @@ fn change_area(s: &mut Source, request: &mut Request) {
     }
 }
 
-/// Gives the areas together 300,000 hectares, or one more, or 2^32 and some.
+/// Gives the areas, two at least, together 300,000 hectares, or one more, or a number of 33 bits.
 fn fill_hectares(s: &mut Source, request: &mut Request) {
-    if request.areas.is_empty() {
+    let Some(last) = request.areas.last().copied() else {
         return;
+    };
+    if request.areas.len() == 1 {
+        request.areas.push(last);
     }
     let place = s.below(request.areas.len());
-    let others: u64 = (0..)
-        .zip(&request.areas)
-        .filter(|(other, _)| *other != place)
-        .map(|(_, area)| u64::from(area.hectares))
+    request.areas[place].hectares = 0;
+    let others: u64 = request
+        .areas
+        .iter()
+        .map(|area| u64::from(area.hectares))
         .sum();
     let most = u64::from(MOST_HECTARES);
-    let wanted = s.pick(&[most, most + 1, most + 1, 1 << 32, (1 << 32) + most]);
+    let wanted = match s.below(8) {
+        0..=2 => most,
+        3..=6 => most + 1,
+        _ => (1 << 32) + most,
+    };
     request.areas[place].hectares = wanted.saturating_sub(others) as u32;
 }
 
