@@ -79,7 +79,7 @@ fn the_names_differ_and_the_journals_are_small_together() {
     assert_eq!(names.len(), journals.len());
     assert!(names.iter().all(|name| name.starts_with("j-")));
     let bytes: usize = journals.iter().map(|named| named.journal.len()).sum();
-    assert!(bytes < 3_000_000, "{bytes}");
+    assert!(bytes < 3_400_000, "{bytes}");
 }
 
 #[test]

@@ -434,11 +434,12 @@ fn counts(list: &mut List) {
         let whole = 6 * usize::from(areas) + 2 * usize::from(years);
         let name = format!("j-wi-counts-{areas}-{years}");
         list.windows(&name, [counted(areas, years, whole)]);
-        if whole > 0 {
-            let short = counted(areas, years, whole - 1);
-            list.add(&format!("{name}-short"), join(FOREST, &short));
-            let none = counted(areas, years, 0);
-            list.add(&format!("{name}-nothing"), join(FOREST, &none));
+        let mut short = vec![0, 1, whole.saturating_sub(1).min(1600), 60];
+        short.retain(|left| *left < whole);
+        short.dedup();
+        for left in short {
+            let own = counted(areas, years, left);
+            list.add(&format!("{name}-left-{left}"), join(FOREST, &own));
         }
     }
     let mut swapped = window(20, &WOOD, &years(20));
