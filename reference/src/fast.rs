@@ -1197,15 +1197,15 @@ pub fn windows(width: usize, areas: &[SoilRecord], years: &[u16]) -> windows::Re
     };
     let (first, entering) = years.split_at(width);
     let mut rain = RainSums::of(first);
-    let mut places = [0; PLACES];
-    places[0] = sums.runoff(&rain, width);
+    let mut reply = reply_of(entering.len() + 1);
+    reply.places[0] = sums.runoff(&rain, width);
     let moved = entering.iter().zip(years);
-    for (place, (entering, leaving)) in places[1..].iter_mut().zip(moved) {
+    for (place, (entering, leaving)) in reply.places[1..].iter_mut().zip(moved) {
         rain.add(*entering);
         rain.take_off(*leaving);
         *place = sums.runoff(&rain, width);
     }
-    accepted(entering.len() + 1, places)
+    reply
 }
 
 /// The same, each window from all of its years anew.
@@ -1214,18 +1214,19 @@ pub fn windows_anew(width: usize, areas: &[SoilRecord], years: &[u16]) -> window
         Ok(sums) => sums,
         Err(number) => return windows::Reply::refused(number),
     };
-    let mut places = [0; PLACES];
-    for (place, years) in places.iter_mut().zip(years.windows(width)) {
+    let mut reply = reply_of(years.len() - width + 1);
+    for (place, years) in reply.places.iter_mut().zip(years.windows(width)) {
         *place = sums.runoff(&RainSums::of(years), width);
     }
-    accepted(years.len() - width + 1, places)
+    reply
 }
 
-fn accepted(windows: usize, places: [i64; PLACES]) -> windows::Reply {
+/// An accepted reply of so many windows, with 0 in its places.
+fn reply_of(windows: usize) -> windows::Reply {
     windows::Reply {
         refused: None,
         windows,
-        places,
+        places: [0; PLACES],
     }
 }
 

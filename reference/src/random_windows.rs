@@ -78,7 +78,7 @@ fn many(s: &mut Source, count: usize, least: i64, most: i64) -> Vec<u16> {
     (0..count).map(|_| s.between(least, most) as u16).collect()
 }
 
-/// Areas that give a half with years of 5000 tenths, or with them and others near them about a half more than a whole.
+/// Areas that give one half or several with years of 5000 tenths.
 fn areas_of_halves(s: &mut Source) -> Vec<SoilRecord> {
     let area = |cover, hectares| SoilRecord {
         cover,
