@@ -293,7 +293,7 @@ fn are_terms(volumes: &[u32]) -> bool {
 }
 
 /// Whether every field of a record is within its values. A downstream number always is.
-fn fields_within_values(record: &Record) -> bool {
+pub(crate) fn fields_within_values(record: &Record) -> bool {
     match record {
         Record::Unit(unit) => unit_within_values(unit),
         Record::Soil(area) => {

@@ -1,10 +1,13 @@
 //! Named journals at the limits of the format and at the places where each of its refusals can arise.
 
+mod windows;
+
 use crate::journal::{Own, LONGEST_JOURNAL};
 use crate::planning::Name;
 use crate::random_journals::UNKNOWN_OWN_MARKS;
 use crate::record::Mark;
 use crate::{book, text, LONGEST_BOOK};
+use windows::WINDOW;
 
 /// A named journal.
 pub struct Named {
@@ -57,6 +60,7 @@ pub fn journals() -> Vec<Named> {
     unknown_marks(&mut list);
     pages(&mut list);
     lengths(&mut list);
+    windows::windows(&mut list);
     list.0
 }
 
@@ -76,6 +80,7 @@ pub fn large() -> Vec<Named> {
     unread.resize(LONGEST_JOURNAL, b'K');
     list.add("j-longest-unread", unread);
     list.add("j-longest-zeros", vec![0; LONGEST_JOURNAL]);
+    windows::large(&mut list);
     list.0
 }
 
@@ -101,7 +106,8 @@ fn name(word: &str) -> Name {
     name
 }
 
-/// The bytes of a text whose lines are separated by semicolons: the lines of a book, `keep WORD` and `back WORD`.
+/// The bytes of a text whose lines are separated by semicolons: the lines of a book, `windows`, `keep WORD` and
+/// `back WORD`.
 fn t(text: &str) -> Vec<u8> {
     text.split(';')
         .flat_map(|line| line_bytes(line.trim()))
@@ -435,8 +441,10 @@ fn faulty_descriptions(list: &mut List) {
     ] {
         list.text(&format!("j-keep-after-{word}"), &format!("{text}; keep A"));
         list.text(&format!("j-back-after-{word}"), &format!("{text}; back A"));
+        list.text(&format!("j-wi-after-{word}"), &format!("{text}; {WINDOW}"));
         list.add(&format!("j-keep-short-after-{word}"), join(&text, b"KP"));
         list.add(&format!("j-back-short-after-{word}"), join(&text, b"GB"));
+        list.add(&format!("j-wi-short-after-{word}"), join(&text, b"WI\x14"));
     }
     list.text(
         "j-keep-after-20-years",
@@ -446,6 +454,14 @@ fn faulty_descriptions(list: &mut List) {
         "j-keep-after-flow-0",
         &format!("unit extraction=1540; {RAIN}; keep A"),
     );
+    list.text(
+        "j-wi-after-20-years",
+        &format!("{FOREST}; {WINDOW}; rain 800"),
+    );
+    list.text(
+        "j-wi-after-flow-0",
+        &format!("unit extraction=1540; {RAIN}; {WINDOW}"),
+    );
     list.add(
         "j-unknown-mark-before-keep",
         join(FOREST, &[b"XX", &t("keep A")[..]].concat()),
@@ -453,32 +469,30 @@ fn faulty_descriptions(list: &mut List) {
 }
 
 fn marks_inside_descriptions(list: &mut List) {
-    for word in ["keep", "back"] {
+    for (word, own) in [("keep", "keep A"), ("back", "back A"), ("wi", WINDOW)] {
         list.text(
             &format!("j-{word}-in-mid-description"),
-            &format!("unit; {word} A; {RAIN}"),
+            &format!("unit; {own}; {RAIN}"),
         );
         list.text(
             &format!("j-{word}-between-units"),
-            &format!("{FOREST}; {word} A; {FOREST}"),
+            &format!("{FOREST}; {own}; {FOREST}"),
         );
         list.text(
             &format!("j-{word}-between-draining-units"),
-            &format!("unit downstream=2; {RAIN}; {word} A; {FOREST}"),
+            &format!("unit downstream=2; {RAIN}; {own}; {FOREST}"),
         );
         list.text(
             &format!("j-{word}-between-years"),
-            &format!(
-                "unit; soil cover=8 soil=1 hectares=10000; rain 800 x10; {word} A; rain 800 x10"
-            ),
+            &format!("unit; soil cover=8 soil=1 hectares=10000; rain 800 x10; {own}; rain 800 x10"),
         );
         list.text(
             &format!("j-{word}-between-aquifers"),
-            &format!("{FOREST}; {AQUIFER}; {word} A; {AQUIFER}"),
+            &format!("{FOREST}; {AQUIFER}; {own}; {AQUIFER}"),
         );
         list.text(
             &format!("j-{word}-before-description"),
-            &format!("{word} A; {FOREST}"),
+            &format!("{own}; {FOREST}"),
         );
     }
 }
@@ -505,7 +519,7 @@ fn description_marks(list: &mut List) {
 
 fn unknown_marks(list: &mut List) {
     let kept = format!("{BASIN}; keep A; {GRANT}");
-    let like_own: [(&str, &[u8; 2]); 7] = [
+    let like_own: [(&str, &[u8; 2]); 9] = [
         ("kp-lowercase", b"kp"),
         ("gb-lowercase", b"gb"),
         ("pk", b"PK"),
@@ -513,6 +527,8 @@ fn unknown_marks(list: &mut List) {
         ("kb", b"KB"),
         ("gp", b"GP"),
         ("ko", b"KO"),
+        ("wi-lowercase", b"wi"),
+        ("iw", b"IW"),
     ];
     let later = UNKNOWN_OWN_MARKS.map(|letters| {
         let word = String::from_utf8_lossy(letters).to_lowercase();
@@ -524,7 +540,7 @@ fn unknown_marks(list: &mut List) {
         list.add(&format!("j-unknown-{word}"), join(&kept, &bytes));
         list.add(&format!("j-unknown-{word}-first"), join(BASIN, &bytes));
     }
-    list.add("j-unknown-own-mark-short", join(&kept, b"WI"));
+    list.add("j-unknown-own-mark-short", join(&kept, b"FI"));
     list.add(
         "j-call-after-failed",
         join(&kept, &[b"XX", &t("back A")[..]].concat()),

@@ -9,8 +9,9 @@ use crate::basin::{LARGEST_TERM, MOST_AQUIFERS, MOST_UNITS};
 use crate::book::{Refusal, FEWEST_YEARS, MOST_AREAS, MOST_HECTARES, MOST_YEARS};
 use crate::book::{LARGEST_GAUGED, LEAST_RAIN, LEAST_TENTHS, MOST_RAIN, MOST_TENTHS};
 use crate::planning::{self, Name, MOST_KEPT};
-use crate::record::Call;
+use crate::record::{Call, SoilRecord};
 use crate::register::{return_of, Registered, Reply, Title, MOST_TITLES, RETURN_PERCENT};
+use crate::windows::{self, MOST_RAIN_YEARS, PLACES};
 use crate::{report, LONGEST_BOOK};
 use std::ops::RangeInclusive;
 
@@ -1019,13 +1020,22 @@ impl OpenUnit {
         }
     }
 
-    /// The sum of the rain years in 6,000,000,000ths. With S for the weighted hectares and A for the
-    /// hectares a year of p tenths gives 3·S·p·(p − 2500), and 40,000·p·(S − 15·A) if that is positive.
     fn rain_sum(&self) -> i64 {
-        let above_threshold = (self.weighted - 15 * self.hectares).max(0);
-        3 * self.weighted * (self.rain_squared - 2500 * self.rain)
-            + 40_000 * above_threshold * self.rain
+        let above_threshold = above_threshold(self.weighted, self.hectares);
+        rain_sum(self.weighted, above_threshold, self.rain, self.rain_squared)
     }
+}
+
+/// The weighted hectares less 15 for each hectare, if that is positive, or else 0.
+fn above_threshold(weighted: i64, hectares: i64) -> i64 {
+    (weighted - 15 * hectares).max(0)
+}
+
+/// The sum of rain years in 6,000,000,000ths, from the sums of their tenths and of the squares. With S for
+/// the weighted hectares and A for the hectares a year of p tenths gives 3·S·p·(p − 2500), and
+/// 40,000·p·(S − 15·A) if that is positive.
+fn rain_sum(weighted: i64, above_threshold: i64, rain: i64, squared: i64) -> i64 {
+    3 * weighted * (squared - 2500 * rain) + 40_000 * above_threshold * rain
 }
 
 /// The whole number nearest to a fraction of numbers that are not negative, halves up.
@@ -1174,6 +1184,139 @@ pub fn run_by(
         at = next;
     }
     Ok(())
+}
+
+// The moving window
+
+/// The natural runoff of each window of so many rain years. From one window to the next the year that
+/// enters is added to two sums and the year that leaves is taken off, so that a year is read twice.
+pub fn windows(width: usize, areas: &[SoilRecord], years: &[u16]) -> windows::Reply {
+    let sums = match checked(width, areas, years) {
+        Ok(sums) => sums,
+        Err(number) => return windows::Reply::refused(number),
+    };
+    let (first, entering) = years.split_at(width);
+    let mut rain = RainSums::of(first);
+    let mut reply = reply_of(entering.len() + 1);
+    reply.places[0] = sums.runoff(&rain, width);
+    let moved = entering.iter().zip(years);
+    for (place, (entering, leaving)) in reply.places[1..].iter_mut().zip(moved) {
+        rain.add(*entering);
+        rain.take_off(*leaving);
+        *place = sums.runoff(&rain, width);
+    }
+    reply
+}
+
+/// The same, each window from all of its years anew.
+pub fn windows_anew(width: usize, areas: &[SoilRecord], years: &[u16]) -> windows::Reply {
+    let sums = match checked(width, areas, years) {
+        Ok(sums) => sums,
+        Err(number) => return windows::Reply::refused(number),
+    };
+    let mut reply = reply_of(years.len() - width + 1);
+    for (place, years) in reply.places.iter_mut().zip(years.windows(width)) {
+        *place = sums.runoff(&RainSums::of(years), width);
+    }
+    reply
+}
+
+/// An accepted reply of so many windows, with 0 in its places.
+fn reply_of(windows: usize) -> windows::Reply {
+    windows::Reply {
+        refused: None,
+        windows,
+        places: [0; PLACES],
+    }
+}
+
+/// The sums of a unit's areas.
+struct AreaSums {
+    /// Hectares times K in hundredths.
+    weighted: i64,
+    above_threshold: i64,
+}
+
+impl AreaSums {
+    /// The natural runoff of so many years with these sums.
+    fn runoff(&self, rain: &RainSums, years: usize) -> i64 {
+        let sum = rain_sum(
+            self.weighted,
+            self.above_threshold,
+            rain.tenths,
+            rain.squared,
+        );
+        rounded(sum, 6_000_000_000 * years as i64)
+    }
+}
+
+/// The sums of some years' rain in tenths of a millimetre and of its squares.
+#[derive(Default)]
+struct RainSums {
+    tenths: i64,
+    squared: i64,
+}
+
+impl RainSums {
+    fn of(years: &[u16]) -> RainSums {
+        let mut sums = RainSums::default();
+        years.iter().for_each(|tenths| sums.add(*tenths));
+        sums
+    }
+
+    fn add(&mut self, tenths: u16) {
+        let rain = i64::from(tenths);
+        self.tenths += rain;
+        self.squared += rain * rain;
+    }
+
+    fn take_off(&mut self, tenths: u16) {
+        let rain = i64::from(tenths);
+        self.tenths -= rain;
+        self.squared -= rain * rain;
+    }
+}
+
+/// The sums of the areas, or the number of the refusal.
+fn checked(width: usize, areas: &[SoilRecord], years: &[u16]) -> Result<AreaSums, u8> {
+    let wide = (FEWEST_YEARS..=MOST_YEARS).contains(&width);
+    if !wide || width > years.len() || years.len() > MOST_RAIN_YEARS {
+        return Err(24);
+    }
+    if areas.is_empty() {
+        return Err(3);
+    }
+    if areas.len() > MOST_AREAS {
+        return Err(4);
+    }
+    let sums = area_sums(areas)?;
+    let tenths = LEAST_TENTHS..=MOST_TENTHS;
+    match years.iter().all(|year| tenths.contains(year)) {
+        true => Ok(sums),
+        false => Err(5),
+    }
+}
+
+/// The sums of the areas. One that is out of range is refused at once, before the hectares in all.
+fn area_sums(areas: &[SoilRecord]) -> Result<AreaSums, u8> {
+    let (mut hectares, mut weighted) = (0, 0);
+    for area in areas {
+        let column = usize::from(area.soil).wrapping_sub(1);
+        let row = K.get(usize::from(area.cover).wrapping_sub(1)).ok_or(5)?;
+        let k = row.get(column).ok_or(5)?;
+        if !(1..=MOST_HECTARES).contains(&area.hectares) {
+            return Err(5);
+        }
+        hectares += i64::from(area.hectares);
+        weighted += i64::from(area.hectares) * k;
+    }
+    match hectares > i64::from(MOST_HECTARES) {
+        true => Err(7),
+        false => Ok(AreaSums {
+            weighted,
+            above_threshold: above_threshold(weighted, hectares),
+        }),
+    }
 }
 
 // Printing

@@ -4,9 +4,10 @@
 
 use crate::book::{self, Refusal};
 use crate::planning::{self, Name, State};
-use crate::record::{self, Call, Record, Unreadable};
+use crate::record::{self, Call, Record, SoilRecord, Unreadable};
 use crate::register::{self, refuse_if, Reply};
 use crate::report;
+use crate::windows::{self, Request};
 
 /// The longest journal that the program reads, in bytes.
 pub const LONGEST_JOURNAL: usize = 1_048_576;
@@ -18,15 +19,18 @@ pub enum Own {
     Keep(Name),
     /// Goes back to what is kept under a name (GB).
     Back(Name),
+    /// Asks for the natural runoff of each window (WI).
+    Windows(Request),
 }
 
 /// Reads the body that follows an own mark.
 type Reader = fn(&mut Body) -> Result<Own, Unreadable>;
 
 /// The own marks, each with the reader of its body.
-const OWN_MARKS: [(&[u8; 2], Reader); 2] = [
+const OWN_MARKS: [(&[u8; 2], Reader); 3] = [
     (b"KP", |body| Ok(Own::Keep(body.take()?))),
     (b"GB", |body| Ok(Own::Back(body.take()?))),
+    (b"WI", |body| Ok(Own::Windows(body.request()?))),
 ];
 
 impl Own {
@@ -35,17 +39,37 @@ impl Own {
         match self {
             Own::Keep(name) => [b"KP", name.as_slice()].concat(),
             Own::Back(name) => [b"GB", name.as_slice()].concat(),
+            Own::Windows(request) => [b"WI", request_bytes(request).as_slice()].concat(),
         }
     }
 
     /// Does what the record asks, and gives its reply: the words after `call K ` and the lines
     /// after that line, or the number of the refusal.
     fn answer(&self, ledger: &mut Ledger) -> Result<String, u8> {
-        match *self {
-            Own::Keep(name) => ledger.keep(name).map(|()| "kept\n".to_string()),
-            Own::Back(name) => ledger.back(name).map(|()| "back\n".to_string()),
+        match self {
+            Own::Keep(name) => ledger.keep(*name).map(|()| "kept\n".to_string()),
+            Own::Back(name) => ledger.back(*name).map(|()| "back\n".to_string()),
+            Own::Windows(request) => {
+                windows::runoffs(request).map(|runoffs| report::windows(&runoffs))
+            }
         }
     }
+}
+
+/// The body of a moving window: its width, the counts of areas and years, the areas, the years.
+fn request_bytes(request: &Request) -> Vec<u8> {
+    let areas = u8::try_from(request.areas.len()).expect("the count of areas has 8 bits");
+    let years = u16::try_from(request.years.len()).expect("the count of years has 16 bits");
+    let mut bytes = vec![request.width, areas];
+    bytes.extend(years.to_le_bytes());
+    for area in &request.areas {
+        bytes.extend([area.cover, area.soil]);
+        bytes.extend(area.hectares.to_le_bytes());
+    }
+    for tenths in &request.years {
+        bytes.extend(tenths.to_le_bytes());
+    }
+    bytes
 }
 
 /// One whole record of a journal.
@@ -85,6 +109,33 @@ impl Body<'_> {
         let field = field.ok_or(Unreadable::Short)?;
         self.at += N;
         Ok(field.try_into().expect("the slice has N bytes"))
+    }
+
+    fn short(&mut self) -> Result<u16, Unreadable> {
+        Ok(u16::from_le_bytes(self.take()?))
+    }
+
+    fn area(&mut self) -> Result<SoilRecord, Unreadable> {
+        let [cover, soil] = self.take()?;
+        let hectares = u32::from_le_bytes(self.take()?);
+        Ok(SoilRecord {
+            cover,
+            soil,
+            hectares,
+        })
+    }
+
+    /// Takes the body of a moving window, whose length follows from its counts.
+    fn request(&mut self) -> Result<Request, Unreadable> {
+        let [width, areas] = self.take()?;
+        let years = self.short()?;
+        let areas = (0..areas).map(|_| self.area()).collect::<Result<_, _>>()?;
+        let years = (0..years).map(|_| self.short()).collect::<Result<_, _>>()?;
+        Ok(Request {
+            width,
+            areas,
+            years,
+        })
     }
 }
 

@@ -12,11 +12,13 @@ pub mod planning;
 pub mod random;
 pub mod random_journals;
 pub mod random_states;
+pub mod random_windows;
 pub mod record;
 pub mod register;
 pub mod report;
 pub mod runoff;
 pub mod text;
+pub mod windows;
 
 use book::Refusal;
 use register::Balance;

@@ -202,7 +202,7 @@ fn year_count(s: &mut Source) -> usize {
     }
 }
 
-fn areas(s: &mut Source) -> Vec<SoilRecord> {
+pub(crate) fn areas(s: &mut Source) -> Vec<SoilRecord> {
     let count = match s.below(10) {
         0..=4 => 1,
         5..=7 => s.between(2, 5) as usize,
@@ -605,7 +605,7 @@ fn limit_rain(s: &mut Source) -> u16 {
 }
 
 /// Tenths of a millimetre at or past a limit.
-fn limit_tenths(s: &mut Source) -> u16 {
+pub(crate) fn limit_tenths(s: &mut Source) -> u16 {
     s.pick(&[
         0, 349, 350, 3499, 3499, 3500, 21_500, 21_501, 21_501, 65_535,
     ])

@@ -1,26 +1,26 @@
 //! Random and damaged journals from a seed.
 //!
-//! Most have an accepted description, calls near what the balance allows, and keepings and returns
-//! under a few names; the others carry faults in records, in bytes or in their length.
+//! Most have an accepted description, calls near what the balance allows, keepings and returns
+//! under a few names and moving windows; the others carry faults in records, in bytes or in their
+//! length.
 
 use crate::journal::{Own, LONGEST_JOURNAL};
 use crate::planning::{self, Name, State, MOST_KEPT};
 use crate::random::{self, Office, Source};
 use crate::record::{self, Call, Mark, Record};
 use crate::register::Balance;
-use crate::{book, LONGEST_BOOK};
+use crate::{book, random_windows, LONGEST_BOOK};
 
 /// The marks of journals that books don't have.
-pub const OWN_MARKS: [&[u8; 2]; 2] = [b"KP", b"GB"];
+pub const OWN_MARKS: [&[u8; 2]; 3] = [b"KP", b"GB", b"WI"];
 
 /// Marks of journals that are unknown for now.
-pub const UNKNOWN_OWN_MARKS: [&[u8; 2]; 9] = [
-    b"WI", b"FI", b"AP", b"GR", b"LP", b"LO", b"SP", b"CH", b"MO",
-];
+pub const UNKNOWN_OWN_MARKS: [&[u8; 2]; 8] =
+    [b"FI", b"AP", b"GR", b"LP", b"LO", b"SP", b"CH", b"MO"];
 
 /// Bytes that resemble an own mark.
-const LIKE_OWN_MARKS: [&[u8; 2]; 9] = [
-    b"kp", b"gb", b"PK", b"BG", b"KB", b"GP", b"Kp", b"K\0", b"XX",
+const LIKE_OWN_MARKS: [&[u8; 2]; 12] = [
+    b"kp", b"gb", b"PK", b"BG", b"KB", b"GP", b"Kp", b"K\0", b"XX", b"wi", b"IW", b"WB",
 ];
 
 /// The journal of a seed.
@@ -147,6 +147,7 @@ impl Plan {
         match s.below(20) {
             0..=8 => self.keep_some(s),
             9..=10 => self.back_to_some(s),
+            11..=14 => self.window_some(s),
             _ => {}
         }
     }
@@ -160,12 +161,13 @@ impl Plan {
         if s.chance(percent_calls) {
             return self.call_some(s, modest);
         }
-        match s.below(100) {
+        match s.below(120) {
             0..=37 => self.keep_some(s),
             38..=70 => self.back_to_some(s),
             71..=89 => self.try_and_return(s),
             90..=94 => self.keep_five(s),
-            _ => self.keep_instead(s),
+            95..=99 => self.keep_instead(s),
+            _ => self.window_some(s),
         }
     }
 
@@ -230,6 +232,11 @@ impl Plan {
     fn back_to_some(&mut self, s: &mut Source) {
         let name = self.name(s, 80);
         self.back(name);
+    }
+
+    /// A moving window. It changes nothing.
+    fn window_some(&mut self, s: &mut Source) {
+        self.write(&window_record(s));
     }
 
     /// Keeps, grants, cancels, goes back and grants again, so that title numbers repeat.
@@ -304,17 +311,26 @@ fn some_bytes(s: &mut Source, most: usize) -> Vec<u8> {
 }
 
 fn own_record(s: &mut Source) -> Vec<u8> {
-    let name = any_name(s);
-    match s.chance(60) {
-        true => Own::Keep(name).bytes(),
-        false => Own::Back(name).bytes(),
+    match s.below(10) {
+        0..=4 => Own::Keep(any_name(s)).bytes(),
+        5..=7 => Own::Back(any_name(s)).bytes(),
+        _ => window_record(s),
     }
 }
 
-/// An own mark with 0 to 7 bytes of its name.
+fn window_record(s: &mut Source) -> Vec<u8> {
+    Own::Windows(random_windows::request(s)).bytes()
+}
+
+/// An own mark without some of the bytes of its body, or without all.
 fn short_own_record(s: &mut Source) -> Vec<u8> {
     let mut record = own_record(s);
-    record.truncate(2 + s.below(8));
+    let most = match s.chance(50) {
+        true => 8,
+        false => record.len() - 2,
+    };
+    let left = s.below(most.min(record.len() - 2));
+    record.truncate(2 + left);
     record
 }
 
@@ -510,7 +526,7 @@ fn repeated(s: &mut Source, length: usize) -> Vec<u8> {
     journal
 }
 
-/// Calls of every kind, more often than not with keepings and returns.
+/// Calls of every kind, more often than not with keepings and returns, sometimes with a moving window.
 fn few_records(s: &mut Source) -> Vec<Vec<u8>> {
     let volume = s.between(0, 3) as u32;
     let usage = s.between(1, 7) as u8;
@@ -550,6 +566,9 @@ fn few_records(s: &mut Source) -> Vec<Vec<u8>> {
             few.push(Own::Keep(name).bytes());
             few.push(Own::Back(name).bytes());
         }
+    }
+    if s.chance(30) {
+        few.push(window_record(s));
     }
     few
 }

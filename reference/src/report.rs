@@ -18,6 +18,15 @@ pub fn call(place: usize, reply: &Reply) -> String {
     }
 }
 
+/// What stands after `call K ` for a moving window: how many windows there are, and a line for each.
+pub fn windows(runoffs: &[i64]) -> String {
+    let mut text = format!("windows {}\n", runoffs.len());
+    for (number, runoff) in (1..).zip(runoffs) {
+        text += &format!("window {number} {runoff}\n");
+    }
+    text
+}
+
 /// The lines of all units, then of all aquifers.
 pub fn table(balance: &Balance) -> String {
     let mut text = String::new();

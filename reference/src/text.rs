@@ -4,13 +4,14 @@
 //! N equal years.
 
 mod name;
+mod window;
 
 use crate::journal::{self, JournalRecord, Own};
 use crate::record::{self, AquiferRecord, Call, GaugeRecord, Record, SoilRecord, UnitRecord};
 use crate::record::{Mark, Unreadable};
 use std::fmt;
 
-/// The most equal years that one line stands for.
+/// The most equal years that one line, or one word of a moving window, stands for.
 const MOST_REPETITIONS: usize = 65_536;
 
 /// A fault in a text, with its line counted from 1.
@@ -65,9 +66,10 @@ fn keyword(mark: Mark) -> &'static str {
 type OwnReader = fn(&str) -> Result<Own, String>;
 
 /// The keywords of a journal's own records, each with the reader of what follows it.
-const OWN_KEYWORDS: [(&str, OwnReader); 2] = [
+const OWN_KEYWORDS: [(&str, OwnReader); 3] = [
     ("keep", |rest| name::read(rest).map(Own::Keep)),
     ("back", |rest| name::read(rest).map(Own::Back)),
+    ("windows", |rest| window::read(rest).map(Own::Windows)),
 ];
 
 /// The line of an own record of a journal.
@@ -75,6 +77,7 @@ fn show_own(own: &Own) -> String {
     match own {
         Own::Keep(name) => format!("keep {}", name::show(name)),
         Own::Back(name) => format!("back {}", name::show(name)),
+        Own::Windows(request) => format!("windows {}", window::show(request)),
     }
 }
 

@@ -6,7 +6,7 @@ use common::{book, of_crate, BASIN};
 use reference::journal::{self, next_asked, Asked, Own, LONGEST_JOURNAL};
 use reference::planning::{self, State};
 use reference::random::{self, Source};
-use reference::{register, report, text, LONGEST_BOOK};
+use reference::{random_windows, register, report, text, windows, LONGEST_BOOK};
 use std::path::Path;
 
 /// What the program prints of a journal.
@@ -94,7 +94,7 @@ fn a_book_prints_as_a_journal_what_it_prints_as_a_book() {
     assert!(compared > 2500, "{compared}");
 }
 
-/// A random book with keepings and returns between its calls, if its description is accepted.
+/// A random book with keepings, returns and moving windows between its calls, if its description is accepted.
 fn book_with_plans(seed: u64) -> Option<Vec<u8>> {
     let mut source = Source::new(seed);
     let book = random::book(seed);
@@ -105,7 +105,11 @@ fn book_with_plans(seed: u64) -> Option<Vec<u8>> {
         at = next;
         if source.chance(40) {
             let name = [source.pick(b"abcdef"), 0, 0, 0, 0, 0, 0, 0];
-            let own = source.pick(&[Own::Keep, Own::Back])(name);
+            let own = match source.below(9) {
+                0..=3 => Own::Keep(name),
+                4..=7 => Own::Back(name),
+                _ => Own::Windows(random_windows::request(&mut source)),
+            };
             journal.extend(own.bytes());
         }
     }
@@ -144,12 +148,20 @@ fn answered_plainly(state: &mut State, place: usize, asked: &Asked) -> String {
         }
         Asked::Own(Own::Keep(name)) => planning::keep(state, *name),
         Asked::Own(Own::Back(name)) => planning::back(state, *name),
+        Asked::Own(Own::Windows(request)) => return windows_answered(place, request),
     };
     *state = after;
     match reply {
         planning::Reply::Kept => format!("call {place} kept\n"),
         planning::Reply::Back => format!("call {place} back\n"),
         planning::Reply::Refused(number) => format!("call {place} refused {number}\n"),
+    }
+}
+
+fn windows_answered(place: usize, request: &windows::Request) -> String {
+    match windows::runoffs(request) {
+        Ok(runoffs) => format!("call {place} {}", report::windows(&runoffs)),
+        Err(number) => format!("call {place} refused {number}\n"),
     }
 }
 
@@ -168,7 +180,7 @@ fn one_test_for_0_of_each_balance_gives_what_a_test_before_each_call_gives() {
             *replies.entry(reply).or_insert(0) += 1;
         }
     }
-    for reply in ["given", "cancelled", "kept", "back"] {
+    for reply in ["given", "cancelled", "kept", "back", "windows"] {
         assert!(replies[reply] > 100, "{replies:?}");
     }
     for reply in ["refused 17", "refused 22", "refused 23"] {
@@ -232,6 +244,9 @@ fn a_record_that_fails_is_printed_before_the_table() {
         (b"GU\x01", 1),
         (b"KQ12345678", 2),
         (b"kp12345678", 2),
+        (b"WI\x14\0\x14\0", 1),
+        (b"WJ\x14\0\0\0", 2),
+        (b"wi\x14\0\0\0", 2),
         (b"UN", 2),
         (b"PR\x20\x03", 2),
     ] {
@@ -247,8 +262,8 @@ fn a_record_that_fails_is_printed_before_the_table() {
 
 #[test]
 fn own_marks_are_unknown_in_a_book() {
-    for mark in ["keep", "back"] {
-        let own = book(&format!("{mark} \"x\""));
+    for own in ["keep \"x\"", "back \"x\"", "windows width=20"] {
+        let own = book(own);
         assert_eq!(reference::run(&own), b"refused 2 at 0\n");
         let mut after_a_call = book("cancel 1");
         after_a_call.extend(&own);

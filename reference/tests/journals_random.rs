@@ -19,7 +19,7 @@ fn a_seed_gives_one_journal() {
 
 #[test]
 fn most_descriptions_are_accepted_and_most_of_those_keep_and_go_back() {
-    let (mut accepted, mut kept_and_back) = (0, 0);
+    let (mut accepted, mut kept_and_back, mut with_windows) = (0, 0, 0);
     let mut replies = BTreeSet::new();
     for seed in 0..3000 {
         let journal = journal(seed);
@@ -30,11 +30,13 @@ fn most_descriptions_are_accepted_and_most_of_those_keep_and_go_back() {
         let printed = printed(&journal);
         let has = |reply: &str| printed.lines().any(|line| line.ends_with(reply));
         kept_and_back += usize::from(has(" kept") && has(" back"));
+        with_windows += usize::from(printed.contains("\nwindow "));
         replies.extend(printed.lines().filter_map(reply_without_number));
     }
     assert!((1800..2300).contains(&accepted), "{accepted}");
     assert!(kept_and_back * 10 > accepted * 6, "{kept_and_back}");
-    for number in (12..=20).chain([22, 23]) {
+    assert!(with_windows * 10 > accepted * 4, "{with_windows}");
+    for number in [3, 4, 5, 7].into_iter().chain(12..=20).chain(22..=24) {
         assert!(replies.contains(&format!("refused {number}")), "{number}");
     }
 }
@@ -77,7 +79,7 @@ fn the_names_differ_and_the_journals_are_small_together() {
     assert_eq!(names.len(), journals.len());
     assert!(names.iter().all(|name| name.starts_with("j-")));
     let bytes: usize = journals.iter().map(|named| named.journal.len()).sum();
-    assert!(bytes < 3_000_000, "{bytes}");
+    assert!(bytes < 3_400_000, "{bytes}");
 }
 
 #[test]
@@ -130,9 +132,10 @@ fn replies_where_the_program_starts_a_page() {
 /// The replies of a journal and the line of its failing record, without the words `call K`.
 fn replies(name: &str) -> String {
     let printed = printed(&find(name));
-    let lines = printed
-        .lines()
-        .filter(|line| !line.starts_with("unit") && !line.starts_with("aquifer"));
+    let lines = printed.lines().filter(|line| {
+        let other = ["unit", "aquifer", "window"];
+        !other.iter().any(|word| line.starts_with(word))
+    });
     let shown = lines.enumerate().map(|(place, line)| {
         let call = format!("call {} ", place + 1);
         line.strip_prefix(&call).unwrap_or(line).to_string()
@@ -190,10 +193,90 @@ fn replies_are_those_of_the_format() {
             "j-back-to-water-in-use",
             "given 1, kept, given 2, refused 20, kept, back, cancelled 1, back, refused 20, cancelled 2, cancelled 1",
         ),
-        ("j-unknown-own-mark-wi", "kept, given 1, refused 2 at 397"),
+        ("j-unknown-own-mark-fi", "kept, given 1, refused 2 at 397"),
         ("j-unknown-own-mark-mo-first", "refused 2 at 379"),
+        ("j-wi-first-refused", "refused 24"),
+        ("j-wi-after-19-years", "refused 6 at 0"),
+        ("j-wi-short-after-19-years-second", "refused 6 at 119"),
+        ("j-wi-between-units", "windows 1, refused 2 at 171"),
+        ("j-wi-between-draining-units", "refused 8 at 1"),
+        ("j-wi-in-mid-description", "refused 6 at 0"),
+        ("j-wi-short-0", "refused 1 at 119"),
+        ("j-wi-short-3", "refused 1 at 119"),
+        ("j-wi-short-49-after-calls", "given 1, windows 1, given 2, refused 1 at 447"),
+        ("j-wi-short-49-in-unit", "refused 6 at 0"),
+        ("j-wi-inside-wi", "refused 5, refused 2 at 171"),
+        ("j-wi-counts-0-0", "refused 24, given 1"),
+        ("j-wi-count-of-5120", "refused 1 at 119"),
+        (
+            "j-wi-between-all",
+            "windows 1, kept, windows 1, given 1, refused 24, kept, windows 1, back, windows 1, refused 19, windows 1, back, refused 24, cancelled 1, windows 1, given 2",
+        ),
+        (
+            "j-wi-widths-of-60",
+            "refused 24, refused 24, refused 24, windows 41, windows 40, windows 12, windows 11, refused 24, refused 24, refused 24, refused 24, given 1",
+        ),
+        (
+            "j-wi-areas",
+            "refused 3, windows 2, windows 2, windows 2, windows 2, refused 4, refused 4, refused 4, given 1",
+        ),
+        (
+            "j-wi-hectares",
+            "refused 5, windows 2, windows 2, windows 2, refused 5, refused 5, refused 5, given 1",
+        ),
+        (
+            "j-wi-hectares-in-all",
+            "windows 1, refused 7, refused 7, windows 1, refused 7, refused 7, windows 1, refused 7, refused 7, windows 1, refused 7, given 1",
+        ),
+        (
+            "j-wi-rain-entering",
+            "refused 5, refused 5, refused 5, refused 5, windows 11, windows 11, refused 5, refused 5, refused 5, given 1",
+        ),
     ] {
         assert_eq!(replies(name), expected, "{name}");
+    }
+}
+
+/// The replies to every pair of faults of the areas and of the years. A window that is 20 wide has 20 years in the
+/// first two columns of each row.
+#[test]
+fn the_first_refusal_of_a_window_counts() {
+    let mut expected = Vec::new();
+    for [sound, wrong_rain] in [
+        ["windows 1", "refused 5"],
+        ["refused 3"; 2],
+        ["refused 4"; 2],
+        ["refused 4"; 2],
+        ["refused 4"; 2],
+        ["refused 4"; 2],
+        ["refused 4"; 2],
+        ["refused 5"; 2],
+        ["refused 7"; 2],
+        ["refused 5"; 2],
+        ["refused 5"; 2],
+    ] {
+        expected.extend([sound, wrong_rain]);
+        expected.extend(["refused 24"; 5]);
+    }
+    expected.push("given 1");
+    assert_eq!(replies("j-wi-order-20"), expected.join(", "));
+    for width in [0, 19, 51] {
+        let replies = replies(&format!("j-wi-order-{width}"));
+        assert_eq!(replies, format!("{}given 1", "refused 24, ".repeat(77)));
+    }
+}
+
+#[test]
+fn moving_windows_leave_the_state() {
+    for name in ["j-wi-first", "j-wi-first-refused", "j-wi-thrice"] {
+        let table = |name: &str| -> Vec<String> {
+            let printed = printed(&find(name));
+            let lines = printed
+                .lines()
+                .filter(|line| line.starts_with("unit") || line.starts_with("aquifer"));
+            lines.map(str::to_string).collect()
+        };
+        assert_eq!(table(name), table("j-description-only"), "{name}");
     }
 }
 

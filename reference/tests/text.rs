@@ -254,14 +254,96 @@ fn journals_with_random_names_go_through_text() {
 }
 
 #[test]
+fn moving_windows_have_a_text() {
+    for (line, journal) in [
+        (
+            "windows width=20 soil=8,1,10000 tenths=8000x2 tenths=8001 tenths=8000",
+            &b"WI\x14\x01\x04\0\x08\x01\x10\x27\0\0\x40\x1f\x40\x1f\x41\x1f\x40\x1f"[..],
+        ),
+        ("windows width=0", b"WI\0\0\0\0"),
+        (
+            "windows width=255 soil=0,255,4294967295 soil=1,2,3",
+            b"WI\xff\x02\0\0\0\xff\xff\xff\xff\xff\x01\x02\x03\0\0\0",
+        ),
+        (
+            "windows width=1 tenths=65535 tenths=0",
+            b"WI\x01\0\x02\0\xff\xff\0\0",
+        ),
+    ] {
+        assert_eq!(make(line), Ok(journal.to_vec()), "{line}");
+        assert_eq!(show(journal), Ok(format!("\n# calls\n{line}\n")));
+    }
+    let in_order = make("windows width=20 soil=8,1,5 soil=9,2,6 tenths=8000x3");
+    for line in [
+        "windows tenths=8000x2 soil=8,1,5 width=20 soil=9,2,6 tenths=8000",
+        " windows\tsoil=8,1,5 tenths=8000 tenths=8000 tenths=8000 soil=9,2,6 width=20 # a comment",
+        "windows soil=8,1,5 soil=9,2,6 tenths=8000x3 width=20#comment",
+    ] {
+        assert_eq!(make(line), in_order, "{line}");
+    }
+    assert_eq!(make("windows"), make("windows width=0"));
+}
+
+#[test]
+fn faults_of_moving_windows_have_their_line() {
+    let areas = "soil=8,1,5 ".repeat(256);
+    let long = format!("windows {areas}");
+    for (line, message) in [
+        ("windows 20", "'20' is not name=value"),
+        ("windows years=20", "'windows' has no field 'years'"),
+        ("windows width=256", "256 does not fit in field 'width'"),
+        ("windows width=1 width=1", "field 'width' stands twice"),
+        ("windows soil=8,1", "'8,1' is not cover,soil,hectares"),
+        (
+            "windows soil=8,1,2,3",
+            "'8,1,2,3' is not cover,soil,hectares",
+        ),
+        ("windows soil=256,1,2", "256 does not fit in field 'cover'"),
+        ("windows soil=1,-1,2", "-1 does not fit in field 'soil'"),
+        (
+            "windows soil=1,1,4294967296",
+            "4294967296 does not fit in field 'hectares'",
+        ),
+        (
+            "windows tenths=65536",
+            "65536 does not fit in field 'tenths'",
+        ),
+        ("windows tenths=8x0", "repetition is not 1 to 65536"),
+        ("windows tenths=8x65537", "repetition is not 1 to 65536"),
+        ("windows tenths=8x65536", "more than 65535 years"),
+        ("windows tenths=8x65535 tenths=8", "more than 65535 years"),
+        (&long, "more than 255 areas"),
+        (
+            "windows tenths=",
+            "'' is not a whole number of fitting size",
+        ),
+    ] {
+        let text = format!("unit\n\n{line}\nkeep \"later\"");
+        assert_eq!(fault(&text), format!("line 3: {message}"));
+    }
+}
+
+#[test]
+fn random_windows_go_through_text() {
+    let mut source = Source::new(2);
+    for _ in 0..1000 {
+        let request = reference::random_windows::request(&mut source);
+        let journal = reference::journal::Own::Windows(request).bytes();
+        let text = show(&journal).expect("the journal is well formed");
+        assert_eq!(make(&text), Ok(journal));
+    }
+}
+
+#[test]
 fn a_journal_of_all_records_goes_through_text() {
-    let lines = "unit\nkeep \"a\"\nrain 800 x20\nback \"b\"\naquifer natural=5\ncancel 1\nkeep 0x0100000000000000\n";
+    let lines = "unit\nkeep \"a\"\nrain 800 x20\nback \"b\"\naquifer natural=5\ncancel 1\nkeep 0x0100000000000000\nwindows width=20 tenths=8000x20\n";
     let journal = make(lines).expect("the text is well formed");
     let text = show(&journal).expect("the journal is well formed");
     assert_eq!(
         text,
         "\n# unit 1\nunit\n\n# calls\nkeep \"a\"\nrain 800 x20\nback \"b\"\n\
-         \n# aquifer 1\naquifer natural=5\ncancel 1\nkeep 0x0100000000000000\n"
+         \n# aquifer 1\naquifer natural=5\ncancel 1\nkeep 0x0100000000000000\n\
+         windows width=20 tenths=8000x20\n"
     );
     assert_eq!(make(&text), Ok(journal));
 }

@@ -75,6 +75,7 @@ type Counts = BTreeMap<String, usize>;
 struct Tally {
     bytes: usize,
     lengths: Counts,
+    own_marks: Counts,
     descriptions: Counts,
     replies: Counts,
     failures: Counts,
@@ -94,6 +95,7 @@ fn tally(seeds: Range<u64>) {
     println!("bytes {}", tally.bytes);
     for (title, counts) in [
         ("journals by length", tally.lengths),
+        ("journals with such a mark", tally.own_marks),
         ("descriptions", tally.descriptions),
         ("replies", tally.replies),
         (
@@ -113,6 +115,9 @@ impl Tally {
     fn take(&mut self, journal: &[u8]) {
         self.bytes += journal.len();
         count(&mut self.lengths, length(journal));
+        own_marks(journal)
+            .into_iter()
+            .for_each(|mark| count(&mut self.own_marks, mark));
         count(&mut self.descriptions, description(journal));
         if description(journal) != "accepted" {
             return;
@@ -142,6 +147,21 @@ impl Tally {
         kinds
             .into_iter()
             .for_each(|kind| count(&mut self.journals, kind));
+    }
+}
+
+/// The own marks that stand where a record starts, up to the first bytes that are no record.
+fn own_marks(journal: &[u8]) -> BTreeSet<String> {
+    let mut marks = BTreeSet::new();
+    let mut at = 0;
+    loop {
+        if journal::is_own_mark(journal, at) {
+            marks.insert(String::from_utf8_lossy(&journal[at..at + 2]).to_string());
+        }
+        match journal::record_at(journal, at) {
+            Ok((_, next)) => at = next,
+            Err(_) => return marks,
+        }
     }
 }
 
