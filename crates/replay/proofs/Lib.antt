@@ -3,5 +3,4 @@ pub mod Records
 pub mod Replaying
 pub mod Steps
 pub mod Ending
-pub mod Said
 pub mod Printed

@@ -1,7 +1,7 @@
 -- What each kind of request does to the state and to the two tests for 0. Assumes nothing.
-use Rattle.std.specs.Prelude.{Option, Some, Result, Ok, Err}
+use Rattle.std.specs.Prelude.{Option, Some, Result, Err}
 use Prim.Native.Nat.{ℕ}
-use mathlib.Core.Path.{◌≡◌, refl, sym, ap, ◌∙◌}
+use mathlib.Core.Path.{◌≡◌, sym, ap, ◌∙◌}
 use mathlib.Core.Bool.{Bool, ◌&&◌}
 use lib.Dec.{leb}
 use lib.ListN.{length}
@@ -26,10 +26,6 @@ use Rattle.planning.proofs.Deciding.{back_decided}
 use Rattle.planning.proofs.Replying.{standing, back_faulty}
 use Rattle.planning.proofs.Promises.{keep_keeps, back_keeps, keep_stays, back_stays}
 use Rattle.requests.specs.Requests.{ask, keep, back, state_after}
-use Rattle.report.specs.Calls.{outcome_line}
-use Rattle.report.specs.declared.Outcome.TheVariants.{Kept}
-use Rattle.listing.specs.Outcomes.{answered}
-use Rattle.replies.specs.Reply.{kept_text}
 
 -- What holds of the state in the loop beside its replies: what the test of its balance gave still holds, and that of the whole state if it
 -- was made, and its array is whole.
@@ -84,11 +80,6 @@ module _ (test : Bool) (whole : Option Bool) (st : State) (t : Tested test whole
         state = λ answer q. t.state answer q ∙ sym (back_keeps st n t.sized) ∙ ap sound_state (sym e);
         sized = record { kept = ap (λ (x : State). length x.kept) e ∙ back_stays st n ∙ t.sized.kept };
       }
-
--- The line of what a keeping came to, by its answer.
-pub kept_line : (k : ℕ) (a : Answer) → outcome_line k (answered a Kept) ≡ kept_text k a
-kept_line k (Ok u) = refl
-kept_line k (Err r) = refl
 
 -- A refused call leaves the state.
 pub refused_state : (st : State) (c : Call) (a : Answer) (x : Refusal) → a ≡ (call_reply st.balance c).answer → a ≡ Err x → st ≡ state_after st (ask c)

@@ -101,6 +101,7 @@ fn replies(
         if page.len() > PAGE_ROOM {
             return replayed(kept, balance, next, count, page.len(), true);
         }
+        let k = u64::from(first) + count as u64;
         let (outcome, to) = match requests::record_at(s, next) {
             RecordAt::End => return replayed(kept, balance, next, count, page.len(), false),
             RecordAt::Fails { refusal } => {
@@ -132,12 +133,13 @@ fn replies(
                     Err(refusal) => (listing::refused(refusal), to),
                 }
             }
+            RecordAt::Watches { to } => {
+                replies::watched(&mut page, s, next, k);
+                next = to;
+                continue;
+            }
         };
-        CallLine {
-            call: u64::from(first) + count as u64,
-            outcome,
-        }
-        .put(&mut page);
+        CallLine { call: k, outcome }.put(&mut page);
         next = to;
     }
     replayed(kept, balance, next, most, page.len(), true)

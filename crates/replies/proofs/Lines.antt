@@ -1,5 +1,5 @@
 -- The lines of a moving window. Assumes nothing.
-use Rattle.std.proofs.Common.{◌≡◌, ◌∙◌, ℕ, ◌≤◌, List, length, take, get_or, refl, sym, ap, subst, arith, Ok, Err}
+use Rattle.std.proofs.Common.{◌≡◌, ◌∙◌, ℕ, ◌≤◌, List, length, take, get_or, refl, ap, arith, Ok, Err}
 use Rattle.std.proofs.lemmas.List.{get_or-take, length-take-le}
 use Rattle.listing.specs.Listing.{lines_of}
 use Rattle.listing.proofs.Rows.{lines_same}

@@ -9,7 +9,6 @@ use native.Mathlib.Omega.{arith}
 use borrow.Author.Tests.{lt-ltb, le-ltb, eq-eqb, ne_eqb}
 use Rattle.laws.specs.Signed.{signed32}
 use Rattle.laws.proofs.Cases.{by_lt, by_eq}
-use Rattle.model.specs.declared.Refusal.{Refusal}
 use Rattle.model.specs.declared.Refusal.TheVariants.{Short}
 use Rattle.model.specs.declared.Title.TheVariants.{UnitWithdrawal, AquiferWithdrawal, UnitTransfer, AquiferTransfer, ReturningWithdrawal}
 use Rattle.model.specs.declared.Call.{Call}
@@ -225,15 +224,3 @@ module _ (s t : List ℕ) (same : (i : ℕ) → i < length s → get_or t i 0 �
         call_marked_lem t at (omega arith) ∙ ap (λ (x : Option CallMark). call_marked x t at) b
         ∙ same_call_marked (call_mark (bits8 s at) (bits8 s (at + 1))) c to w))
         (λ l. let w = sym (call_end s at l) ∙ q in cc)
-
-    -- Where ten bytes stand, no call fails but by its mark, and so in both.
-    failed_marked : (m : Option CallMark) (n : Refusal) → at + 10 ≤ length s → call_marked m s at ≡ failed n → call_marked m t at ≡ failed n
-    failed_marked None n h q = q
-    failed_marked (Some m) n h q =
-        let w : Asks (call_of m s at) (at + size_of m) ≡ failed n = rw (le-ltb (length s - at) (size_of m) (omega (arith, (sizes m).1))) at q in
-        cc
-
-    pub same_failed : (n : Refusal) → at + 10 ≤ length s → call_at s at ≡ failed n → call_at t at ≡ failed n
-    same_failed n h q =
-        call_marked_lem t at (omega arith) ∙ ap (λ (x : Option CallMark). call_marked x t at) (marks (omega arith))
-        ∙ failed_marked (call_mark (bits8 s at) (bits8 s (at + 1))) n h (sym (call_marked_lem s at (omega arith)) ∙ q)

@@ -10,31 +10,55 @@ use native.Mathlib.Omega.{arith}
 use borrow.Author.Tests.{lt-ltb, le-ltb}
 use Rattle.laws.proofs.Cases.{by_lt}
 use Rattle.model.specs.declared.Refusal.{Refusal}
-use Rattle.model.specs.declared.Refusal.TheVariants.{Short}
+use Rattle.model.specs.declared.Refusal.TheVariants.{Short, UnknownMark}
 use Rattle.record.specs.declared.CallAt.{CallAt}
 use Rattle.record.specs.declared.CallAt.TheVariants.{End as noCall, Fails as failing, Asks}
-use Rattle.record.specs.Calls.{call_at}
+use Rattle.record.specs.declared.CallMark.{CallMark}
+use Rattle.record.specs.Bytes.{bits8}
+use Rattle.record.specs.Record.{call_mark}
+use Rattle.record.specs.Calls.{call_marked, call_at}
 use Rattle.planning.specs.declared.Name.{Name}
 use Rattle.planning.specs.declared.State.{State}
 use Rattle.planning.specs.Names.{name_length}
 use Rattle.requests.specs.declared.OwnMark.{OwnMark}
-use Rattle.requests.specs.declared.OwnMark.TheVariants.{Kp, Gb}
+use Rattle.requests.specs.declared.OwnMark.TheVariants.{Kp, Gb, Wi}
 use Rattle.requests.specs.declared.RecordAt.{RecordAt}
-use Rattle.requests.specs.declared.RecordAt.TheVariants.{End, Fails, Calls, Keeps, Returns}
-use Rattle.requests.specs.Records.{own_mark, own_at, name_at, own_marked, besides, record_at}
-use Rattle.requests.specs.Requests.{Request, keep, back, state_after, Asking, ends, fails, asks, asking, request_at, requests_from, requests_of}
+use Rattle.requests.specs.declared.RecordAt.TheVariants.{End, Fails, Calls, Keeps, Returns, Watches}
+use Rattle.requests.specs.Records.{own_mark, own_at, own_size, own_is, name_at, own_marked, besides, record_at}
+use Rattle.requests.specs.Watched.{Watched, window_size}
+use Rattle.transcript.proofs.Watching.{size_alike, watched_alike}
+use Rattle.requests.specs.Requests.{Request, keep, back, watch, state_after, Asking, ends, fails, asks, asking, request_at, requests_from, requests_of}
 use Rattle.replay.specs.Page.{Page, reply_to, joined, page_of}
 use Rattle.replay.proofs.Records.{Onward, onward as record-onward}
 use Rattle.replay.proofs.Replaying.{page_ends, page_fails, page_asks, page_none}
 use Rattle.transcript.specs.Followed.{failure_from}
 use Rattle.transcript.specs.Appended.{end_from, end_of, Whole, going_on}
 use Rattle.transcript.proofs.Pages.{asked_by, same_pages}
-use Rattle.transcript.proofs.Alike.{call_end, same_call, same_failed}
+use Rattle.transcript.proofs.Alike.{call_end, call_marked_lem, same_call}
+use Rattle.transcript.proofs.Cutting.{by_spelling}
 
 -- What is asked by a record that no call of a book is, by the mark of a journal alone.
 asked_own : (s : List ℕ) (at : ℕ) (n : Refusal) (m : Option OwnMark) → call_at s at ≡ failing n → own_at s at ≡ m
     → request_at s at ≡ asking (own_marked m s at n) s at
 asked_own s at n m e o = asked_by s at (failing n) e ∙ ap (λ (y : Option OwnMark). asking (own_marked y s at n) s at) o
+
+-- A mark of a journal alone is no call's, and its record has at least six bytes.
+no_call : (a b : ℕ) (m : OwnMark) → own_mark a b ≡ Some m → call_mark a b ≡ None
+no_call a b m h =
+    by_spelling a b 75 80 (λ p q. ap₂ call_mark p q)
+    (λ e. by_spelling a b 71 66 (λ p q. ap₂ call_mark p q)
+    (λ f. by_spelling a b 87 73 (λ p q. ap₂ call_mark p q)
+    (λ g. let w : None ≡ Some m = rw (e, f, g) at h in cc)))
+
+own_call : (s : List ℕ) (at : ℕ) (m : OwnMark) → at + 2 ≤ length s → own_at s at ≡ Some m → call_at s at ≡ failing UnknownMark
+own_call s at m h o =
+    let w : own_mark (bits8 s at) (bits8 s (at + 1)) ≡ Some m = rw (le-ltb (length s - at) 2 (omega arith)) at o in
+    call_marked_lem s at h ∙ ap (λ (x : Option CallMark). call_marked x s at) (no_call (bits8 s at) (bits8 s (at + 1)) m w)
+
+own_some : (m : OwnMark) (s : List ℕ) (at : ℕ) → 6 ≤ own_size m s at
+own_some Kp s at = omega arith
+own_some Gb s at = omega arith
+own_some Wi s at = omega arith
 
 -- Nothing is asked at the end.
 pub asks_nothing : (s : List ℕ) (at : ℕ) → length s ≤ at → request_at s at ≡ ends
@@ -61,33 +85,36 @@ module _ (s t : List ℕ) where
       rw (le-ltb (length s - at) 2 (omega arith), le-ltb (length (s ++ t) - at) 2 (omega (arith, length-append s t)))
       (ap₂ own_mark (same at (omega arith)) (same (at + 1) (omega arith)))
 
-  -- A keeping or a return that is whole in the first is asked still.
-  own_appended : (at : ℕ) (n : Refusal) (r : Request) (to : ℕ) → call_at s at ≡ failing n → (m : Option OwnMark) → own_at s at ≡ m
+  -- Of a record of a journal's own that is whole in the first, the size is the same, and so is what it asks.
+  own_same : (at : ℕ) (m : OwnMark) → at + own_size m s at ≤ length s
+      → (own_size m (s ++ t) at ≡ own_size m s at) × ((to : ℕ) → asking (own_is m to) (s ++ t) at ≡ asking (own_is m to) s at)
+  own_same at Kp h = (refl, λ to. ap (λ (x : Name). asks (keep x) to) (same_name (at + 2) (omega arith)))
+  own_same at Gb h = (refl, λ to. ap (λ (x : Name). asks (back x) to) (same_name (at + 2) (omega arith)))
+  own_same at Wi h =
+      let bytes = λ (i : ℕ) (g : i < window_size s at). same (at + i) (omega arith) in
+      (size_alike (s ++ t) at s at bytes, λ to. ap (λ (x : Watched). asks (watch x) to) (watched_alike (s ++ t) at s at bytes))
+
+  -- It is asked still.
+  own_appended : (at : ℕ) (n : Refusal) (r : Request) (to : ℕ) → (m : Option OwnMark) → own_at s at ≡ m
       → asking (own_marked m s at n) s at ≡ asks r to → request_at (s ++ t) at ≡ asks r to
-  own_appended at n r to e None o q = cc
-  own_appended at n r to e (Some Kp) o q =
-      by_lt (length s - at) 10
-      (λ l. let w : fails Short ≡ asks r to = rw (lt-ltb (length s - at) 10 l) at q in cc)
+  own_appended at n r to None o q = cc
+  own_appended at n r to (Some m) o q =
+      by_lt (length s - at) (own_size m s at)
+      (λ l. let w : fails Short ≡ asks r to = rw (lt-ltb (length s - at) (own_size m s at) l) at q in cc)
       (λ l.
-      let w : asks (keep (name_at s (at + 2))) (at + 10) ≡ asks r to = rw (le-ltb (length s - at) 10 l) at q in
-      asked_own (s ++ t) at n (Some Kp) (same_failed s (s ++ t) same within at n (omega arith) e) (same_own at (omega arith) ∙ o)
-      ∙ rw (le-ltb (length (s ++ t) - at) 10 (omega (arith, length-append s t)))
-      (ap (λ (x : Name). asks (keep x) (at + 10)) (same_name (at + 2) (omega arith)) ∙ w))
-  own_appended at n r to e (Some Gb) o q =
-      by_lt (length s - at) 10
-      (λ l. let w : fails Short ≡ asks r to = rw (lt-ltb (length s - at) 10 l) at q in cc)
-      (λ l.
-      let w : asks (back (name_at s (at + 2))) (at + 10) ≡ asks r to = rw (le-ltb (length s - at) 10 l) at q in
-      asked_own (s ++ t) at n (Some Gb) (same_failed s (s ++ t) same within at n (omega arith) e) (same_own at (omega arith) ∙ o)
-      ∙ rw (le-ltb (length (s ++ t) - at) 10 (omega (arith, length-append s t)))
-      (ap (λ (x : Name). asks (back x) (at + 10)) (same_name (at + 2) (omega arith)) ∙ w))
+      let some = own_some m s at in
+      let alike = own_same at m (omega arith) in
+      let w : asking (own_is m (at + own_size m s at)) s at ≡ asks r to = rw (le-ltb (length s - at) (own_size m s at) l) at q in
+      let own = same_own at (omega arith) ∙ o in
+      asked_own (s ++ t) at UnknownMark (Some m) (own_call (s ++ t) at m (omega (arith, length-append s t)) own) own
+      ∙ rw (alike.0, le-ltb (length (s ++ t) - at) (own_size m s at) (omega (arith, length-append s t))) (alike.1 (at + own_size m s at) ∙ w))
 
   -- So is a call of a book.
   asked_appended : (at : ℕ) (r : Request) (to : ℕ) → (x : CallAt) → call_at s at ≡ x → asking (besides x s at) s at ≡ asks r to
       → request_at (s ++ t) at ≡ asks r to
   asked_appended at r to noCall e q = cc
   asked_appended at r to (Asks c o) e q = asked_by (s ++ t) at (Asks c o) (same_call s (s ++ t) same within at c o e) ∙ q
-  asked_appended at r to (failing n) e q = own_appended at n r to e (own_at s at) refl q
+  asked_appended at r to (failing n) e q = own_appended at n r to (own_at s at) refl q
 
   -- What is asked at an offset stays asked whatever bytes are appended.
   pub request_appended : (at : ℕ) (r : Request) (to : ℕ) → request_at s at ≡ asks r to → request_at (s ++ t) at ≡ asks r to
@@ -100,6 +127,7 @@ goes s at r to (Fails n) o q = cc
 goes s at r to (Calls c p) o q = let e : p ≡ to = cc in (omega (arith, o.0), omega (arith, o.1))
 goes s at r to (Keeps p) o q = let e : p ≡ to = cc in (omega (arith, o.0), omega (arith, o.1))
 goes s at r to (Returns p) o q = let e : p ≡ to = cc in (omega (arith, o.0), omega (arith, o.1))
+goes s at r to (Watches p) o q = let e : p ≡ to = cc in (omega (arith, o.0), omega (arith, o.1))
 
 pub request_goes : (s : List ℕ) (at : ℕ) (r : Request) (to : ℕ) → request_at s at ≡ asks r to → (at + 4 ≤ to) × (to ≤ length s)
 request_goes s at r to q = goes s at r to (record_at s at) (record-onward s at) q

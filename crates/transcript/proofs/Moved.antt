@@ -22,9 +22,10 @@ use Rattle.record.specs.Record.{call_mark}
 use Rattle.record.specs.Calls.{size_of, call_of, call_marked, call_at}
 use Rattle.planning.specs.Names.{name_length}
 use Rattle.requests.specs.declared.OwnMark.{OwnMark}
-use Rattle.requests.specs.declared.OwnMark.TheVariants.{Kp, Gb}
-use Rattle.requests.specs.Records.{own_mark, own_at, name_at, own_marked, besides}
-use Rattle.requests.specs.Requests.{Request, keep, back, Asking, ends, fails, asks, asking, request_at, requests_from, requests_of}
+use Rattle.requests.specs.declared.OwnMark.TheVariants.{Kp, Gb, Wi}
+use Rattle.requests.specs.Records.{own_mark, own_at, own_size, own_is, name_at, own_marked, besides}
+use Rattle.transcript.proofs.Watching.{size_alike, watched_alike}
+use Rattle.requests.specs.Requests.{Request, keep, back, watch, Asking, ends, fails, asks, asking, request_at, requests_from, requests_of}
 use Rattle.transcript.specs.Appended.{end_from, Whole}
 use Rattle.transcript.proofs.Alike.{call_end, call_lone, call_marked_lem}
 use Rattle.transcript.proofs.Pages.{asked_by}
@@ -115,23 +116,28 @@ module _ (s t : List ℕ) (at : ℕ) where
       let d : drop (length s + at + 2) (s ++ t) ≡ drop (at + 2) t = ap (λ (x : ℕ). drop x (s ++ t)) p ∙ drop-append-add s t (at + 2) in
       λ k. record { bytes = take name_length (d k) }
 
+  -- Of a record of a journal's own the size is the same, and so is what it asks.
+  later_size : (m : OwnMark) → own_size m (s ++ t) (length s + at) ≡ own_size m t at
+  later_size Kp = refl
+  later_size Gb = refl
+  later_size Wi = size_alike (s ++ t) (length s + at) t at (λ i h. byte i)
+
+  later_is : (m : OwnMark) (to : ℕ) → asking (own_is m (length s + to)) (s ++ t) (length s + at) ≡ later (length s) (asking (own_is m to) t at)
+  later_is Kp to = λ k. asks (keep (later_name k)) (length s + to)
+  later_is Gb to = λ k. asks (back (later_name k)) (length s + to)
+  later_is Wi to = λ k. asks (watch (watched_alike (s ++ t) (length s + at) t at (λ i h. byte i) k)) (length s + to)
+
   later_keeping : (n : Refusal) (m : Option OwnMark)
       → asking (own_marked m (s ++ t) (length s + at) n) (s ++ t) (length s + at) ≡ later (length s) (asking (own_marked m t at n) t at)
   later_keeping n None = refl
-  later_keeping n (Some Kp) =
-      let p : length s + at + 10 ≡ length s + (at + 10) = omega arith in
-      by_lt (length t - at) 10
-      (λ l. rw (lt-ltb (length t - at) 10 l, lt-ltb (length (s ++ t) - (length s + at)) 10 (omega (arith, left))) refl)
+  later_keeping n (Some m) =
+      let size = own_size m t at in
+      let p : length s + at + size ≡ length s + (at + size) = omega arith in
+      by_lt (length t - at) size
+      (λ l. rw (lt-ltb (length t - at) size l, later_size m, lt-ltb (length (s ++ t) - (length s + at)) size (omega (arith, left))) refl)
       (λ l.
-      rw (le-ltb (length t - at) 10 l, le-ltb (length (s ++ t) - (length s + at)) 10 (omega (arith, left)))
-      (λ k. asks (keep (later_name k)) (p k)))
-  later_keeping n (Some Gb) =
-      let p : length s + at + 10 ≡ length s + (at + 10) = omega arith in
-      by_lt (length t - at) 10
-      (λ l. rw (lt-ltb (length t - at) 10 l, lt-ltb (length (s ++ t) - (length s + at)) 10 (omega (arith, left))) refl)
-      (λ l.
-      rw (le-ltb (length t - at) 10 l, le-ltb (length (s ++ t) - (length s + at)) 10 (omega (arith, left)))
-      (λ k. asks (back (later_name k)) (p k)))
+      rw (le-ltb (length t - at) size l, later_size m, le-ltb (length (s ++ t) - (length s + at)) size (omega (arith, left)))
+      (ap (λ (to : ℕ). asking (own_is m to) (s ++ t) (length s + at)) p ∙ later_is m (at + size)))
 
   later_asking : (x : CallAt)
       → asking (besides (later_call (length s) x) (s ++ t) (length s + at)) (s ++ t) (length s + at) ≡ later (length s) (asking (besides x t at) t at)

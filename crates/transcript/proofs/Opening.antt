@@ -145,7 +145,8 @@ own_unknown : (a b : ℕ) → is_own (own_mark a b) ≡ true → mark_of a b ≡
 own_unknown a b h =
     by_spelling a b 75 80 (λ p q. ap₂ mark_of p q)
     (λ e. by_spelling a b 71 66 (λ p q. ap₂ mark_of p q)
-    (λ f. let w : false ≡ true = rw (e, f) at h in cc))
+    (λ f. by_spelling a b 87 73 (λ p q. ap₂ mark_of p q)
+    (λ g. let w : false ≡ true = rw (e, f, g) at h in cc)))
 
 module _ (s : List ℕ) (at : ℕ) (e : is_own (own_at s at) ≡ true) where
   own_within : at + 2 ≤ length s

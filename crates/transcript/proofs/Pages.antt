@@ -24,9 +24,9 @@ use Rattle.planning.specs.declared.Opened.{Opened}
 use Rattle.planning.specs.State.{nothing_kept}
 use Rattle.planning.specs.Calls.{opened_state}
 use Rattle.requests.specs.declared.OwnMark.{OwnMark}
-use Rattle.requests.specs.declared.OwnMark.TheVariants.{Kp, Gb}
+use Rattle.requests.specs.declared.OwnMark.TheVariants.{Kp, Gb, Wi}
 use Rattle.requests.specs.declared.RecordAt.{RecordAt}
-use Rattle.requests.specs.declared.RecordAt.TheVariants.{End, Fails, Calls, Keeps, Returns}
+use Rattle.requests.specs.declared.RecordAt.TheVariants.{End, Fails, Calls, Keeps, Returns, Watches}
 use Rattle.requests.specs.Records.{own_at, own_marked, besides, record_at}
 use Rattle.requests.specs.Requests.{ask, state_after, states_after, Asking, ends, fails, asks, asking, request_at, requests_from}
 use Rattle.report.specs.Lines.{refused_line}
@@ -52,6 +52,7 @@ asking_reaches s at (Fails n) o = tt
 asking_reaches s at (Calls c to) o = o
 asking_reaches s at (Keeps to) o = (omega arith, o.1)
 asking_reaches s at (Returns to) o = (omega arith, o.1)
+asking_reaches s at (Watches to) o = (omega (arith, o.0), o.1)
 
 -- A request is at least 4 bytes long and ends within the journal.
 request_reaches : (s : List ℕ) (at : ℕ) → Reaches s at (request_at s at)
@@ -223,6 +224,7 @@ page_state (suc m) k st s at = state_one m k st s at (λ k st to. page_state m k
 not_own : (s : List ℕ) (at : ℕ) (n : Refusal) (m : Option OwnMark) → is_own m ≡ false → asking (own_marked m s at n) s at ≡ fails n
 not_own s at n (Some Kp) e = false_true (sym e)
 not_own s at n (Some Gb) e = false_true (sym e)
+not_own s at n (Some Wi) e = false_true (sym e)
 not_own s at n None e = refl
 
 -- What a journal asks at an offset, by the call of a book that stands there.

@@ -2,6 +2,7 @@
 use Prim.Native.Nat.{ℕ, ◌+◌, ◌<◌}
 use mathlib.Core.Path.{◌≡◌, refl, sym, ap, ◌∙◌}
 use mathlib.Core.Bool.{true, false}
+use lib.ListN.{length}
 use native.Mathlib.Omega.{arith}
 use Rattle.std.proofs.lemmas.Option.{none-some}
 use Rattle.basin.proofs.Soundness.{soundness}
@@ -13,16 +14,18 @@ use Rattle.planning.proofs.Replying.{standing}
 use Rattle.planning.proofs.Deciding.{to_within}
 use Rattle.requests.specs.declared.RecordAt.{RecordAt}
 use Rattle.requests.specs.Records.{record_at}
-use Rattle.requests.specs.Requests.{Request, ask, keep, back, state_after, asks, request_at}
+use Rattle.requests.specs.Watched.{watched_at, watched_reply}
+use Rattle.requests.specs.Requests.{Request, ask, keep, back, watch, state_after, asks, request_at}
 use Rattle.text.proofs.Pages.{then, restate}
 use Rattle.report.specs.declared.Outcome.{Outcome}
 use Rattle.report.specs.Calls.{outcome_line}
 use Rattle.listing.proofs.Calling.{called_line}
-use Rattle.replies.specs.Reply.{kept_text, back_text, reply_text}
-use Rattle.replay.proofs.Records.{asked, keeps_onward, returns_onward}
+use Rattle.replies.specs.Reply.{kept_text, back_text, windows_text, reply_text}
+use Rattle.replay.proofs.Records.{asked, keeps_onward, returns_onward, watches_onward}
 use Rattle.replay.proofs.Replaying.{Going, going_start, going_on, going_ends, going_fails, going_short, going_full, replied_so}
 use Rattle.planning.specs.declared.Reply.{Reply}
-use Rattle.replay.proofs.Steps.{back_said, back_by_decision, tested_whole, tested_call, tested_keep, tested_back, kept_line, refused_state}
+use Rattle.replies.proofs.Said.{kept_line}
+use Rattle.replay.proofs.Steps.{back_said, back_by_decision, tested_whole, tested_call, tested_keep, tested_back, refused_state}
 use Rattle.replay.proofs.page.replies.Goals as goal
 use Rattle.replay.proofs.page.replies.Goals.{After-put, In-Ok-decide_back, in-Calls+in-Ok, in-Calls+in_default, in-Keeps, in-Returns+in-Ok-decide_back, in-Returns+in-Err}
 
@@ -186,3 +189,28 @@ returns c =
     (ap (λ (n : ℕ). record { text = going.text; state = cur; next = loop.next; count = n; more = true }) all
     ∙ going_full a.s.now a.from a.first a.most a.state cur loop.next loop.count going (omega (arith, c.loop-count-test.false)))
     c.replayed-2.ensures
+
+-- The moving window is within the journal, and its lines have room.
+pub watched-requires : goal.watched-requires
+watched-requires c =
+    let loop = c.loop-count in
+    let going = loop.invariant.going in
+    let w = watches_onward c.args.s.now loop.next _ c.in-Watches.ensures _ refl in
+    let size = ap length c.new-page.ensures.bytes in
+    (omega (arith, w.0, w.1), omega (arith, c.len.ensures, c.if-len-gt-PAGE_ROOM.false, going.put.put.short, going.put.put.place, going.put.size, size, c.fits-out))
+
+-- It leaves the state.
+pub loop-count-preserved-in-Watches : goal.loop-count-preserved-in-Watches
+loop-count-preserved-in-Watches c =
+    let a = c.args in
+    let loop = c.loop-count in
+    let cur = with_current loop.kept loop.balance in
+    let w = watched_at a.s.now loop.next in
+    let request = asked a.s.now loop.next _ _ c.in-Watches.ensures refl in
+    let text = ap (λ (n : ℕ). windows_text (n + loop.count) (watched_reply w)) c.from.ensures in
+    record {
+      going =
+          going_on a.s.now a.from a.first a.most a.state cur loop.next loop.count loop.invariant.going c.loop-count-test.true (omega (arith, c.len.ensures, c.if-len-gt-PAGE_ROOM.false)) (watch w) _ request cur
+          (restate c.watched.ensures text) refl;
+      tested = loop.invariant.tested;
+    }
