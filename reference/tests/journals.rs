@@ -328,6 +328,7 @@ fn the_examples_are_made_from_their_texts() {
         ("tequisistlan", "book"),
         ("cuenca", "book"),
         ("year", "journal"),
+        ("drift", "journal"),
     ] {
         let words = std::fs::read_to_string(folder.join(format!("{name}.txt"))).expect(name);
         let bytes = std::fs::read(folder.join(format!("{name}.{kind}"))).expect(name);

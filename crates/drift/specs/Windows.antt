@@ -1,5 +1,5 @@
 -- A moving window gives what books of its years give. Assumes nothing.
-use Rattle.std.specs.Prelude.{ℕ, ◌+◌, ◌*◌, ◌<◌, ◌≡◌, List, map, length, get_or, Ok}
+use Rattle.std.specs.Prelude.{ℕ, ◌+◌, ◌*◌, ◌<◌, ◌≡◌, List, map, take, drop, length, get_or, Ok}
 use Rattle.model.specs.Fresh.{empty_unit}
 use Rattle.runoff.specs.declared.Plot.{Plot}
 use Rattle.runoff.specs.Record.{runoff_of}
@@ -7,7 +7,7 @@ use Rattle.record.specs.Described.{no_unit}
 use Rattle.book.specs.Reading.{Description, read, reading, opened}
 use Rattle.cases.specs.Printed.{tenths}
 use Rattle.cases.specs.OneUnit.{rain_book, opens_one}
-use Rattle.window.specs.Window.{year_of, window, window_count, windows_reply}
+use Rattle.window.specs.Window.{year_of, window_count, windows_reply}
 use Rattle.window.specs.Handed.{Handed}
 
 -- The book of one unit with 0 in all its entries, these soil records and these years' rain, each a PD, is accepted; it has so many bytes,
@@ -38,9 +38,9 @@ pub record HasWindow (plots : List Plot) (years : List ℕ) (width i : ℕ) : Ty
 abbrev pub value : List Plot → List ℕ → ℕ → ℕ → ℕ
 value plots years width i = get_or (windows_reply plots years width).runoffs i 0
 
--- The years that a book of this window holds: as many as the window is wide, from the one with this index on.
+-- The years that a book of this window holds: as many as the window is wide, from the one with this index on, the oldest having 0.
 abbrev pub years_in : List ℕ → ℕ → ℕ → List ℕ
-years_in years width i = window width years i
+years_in years width i = take width (drop i years)
 
 -- Each value is the natural runoff that a book holding just the window's years gives.
 abbrev pub WindowAsABook : List Plot → List ℕ → ℕ → ℕ → Type 0
