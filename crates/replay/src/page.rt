@@ -24,7 +24,7 @@ const REPLY: usize = 16_384;
 // The most bytes of the buffer that may be used before a record, so that the longest reply still fits.
 const PAGE_ROOM: usize = ROOM - REPLY;
 
-// What was replayed, the current balance standing apart from what is kept: one literal for the four places where a page ends. `Replayed` would
+// What was replayed, the current balance standing apart from what is kept: one literal for the three places where a page ends. `Replayed` would
 // have to be made without its state to take fewer values.
 fn replayed(
     kept: State,
@@ -74,12 +74,13 @@ fn whole_sound(known: &mut Option<bool>, kept: &State, balance: &Balance) -> boo
     }
 }
 
-// The replies to at most so many records from an offset on, the first of them at place `first` among the records of its journal. It ends before a
-// record whose reply might not fit. The current balance stands apart from what is kept, so that a call changes it alone: an accepted one takes as many instructions as in `balance`.
-// The whole state is tested for 0 at the first keeping or return, since calls need the test of the current balance alone.
-// It is a loop beside `listing::call_lines`, since the records are others and so is the state. A name's bytes are read once, where they are
-// needed: `RecordAt` has none. The count is a `usize` as `Replayed` has it, cast by `as u64`, since std has no `From` of it for `u64`. The four
-// values stay variables of this loop: a struct of them would be made and read here alone.
+// The replies to at most so many records from an offset on, the first of them at place `first` among the records of its journal, as long as the
+// longest reply fits. The current balance stands apart from what is kept, so that a call changes it alone: an accepted one takes as many
+// instructions as in `balance`. The whole state is tested for 0 at the first keeping or return, since calls need the test of the current balance alone.
+// It is a loop beside `listing::call_lines`, since the records are others and so is the state. It is a `while`, since the bytes end it too: with a
+// return for them in a `for` the compiler leaves a line's digits out of line, and a call takes 41 instructions more instead of 5. A name's bytes are
+// read once, where they are needed: `RecordAt` has none. The count is a `usize` as `Replayed` has it, cast by `as u64`, since std has no `From` of it
+// for `u64`. The values stay variables of this loop: a struct of them would be made and read here alone.
 fn replies(
     state: State,
     s: &[u8],
@@ -97,10 +98,9 @@ fn replies(
     let sound = basin::sound(balance);
     let mut next = from;
     let mut page = Page::new(out);
-    for count in 0..most {
-        if page.len() > PAGE_ROOM {
-            return replayed(kept, balance, next, count, page.len(), true);
-        }
+    let mut count = 0;
+    let mut used = 0;
+    while count < most && used <= PAGE_ROOM {
         let (outcome, to) = match requests::record_at(s, next) {
             RecordAt::End => return replayed(kept, balance, next, count, page.len(), false),
             RecordAt::Fails { refusal } => {
@@ -139,8 +139,10 @@ fn replies(
         }
         .put(&mut page);
         next = to;
+        count += 1;
+        used = page.len();
     }
-    replayed(kept, balance, next, most, page.len(), true)
+    replayed(kept, balance, next, count, page.len(), true)
 }
 
 // The reply to the record at an offset, which is at place k among the records of its journal.

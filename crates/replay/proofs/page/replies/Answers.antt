@@ -24,24 +24,15 @@ use Rattle.replay.proofs.Replaying.{Going, going_start, going_on, going_ends, go
 use Rattle.planning.specs.declared.Reply.{Reply}
 use Rattle.replay.proofs.Steps.{back_said, back_by_decision, tested_whole, tested_call, tested_keep, tested_back, kept_line, refused_state}
 use Rattle.replay.proofs.page.replies.Goals as goal
-use Rattle.replay.proofs.page.replies.Goals.{After-put, In-Ok-decide_back, in-Calls+in-Ok, in-Calls+in_default, in-Keeps, in-Returns+in-Ok-decide_back, in-Returns+in-Err}
+use Rattle.replay.proofs.page.replies.Goals.{After-len-used, In-Ok-decide_back, in-Calls+in-Ok, in-Calls+in_default, in-Keeps, in-Returns+in-Ok-decide_back, in-Returns+in-Err, then-loop-count-test+else-used-le-PAGE_ROOM, else-loop-count-test}
 
 pub loop-count-init : goal.loop-count-init
 loop-count-init c =
     record {
       going = going_start c.args.s.now c.args.from c.args.first c.args.most c.args.state c.new-page.result (omega arith) c.new-page.ensures.empty;
+      used = sym c.new-page.ensures.empty;
       tested = record { balance = c.sound-sound.ensures; state = λ answer q. elim (none-some answer q) [ ]; sized = record { kept = omega arith } };
     }
-
-pub returns-then-len-gt-PAGE_ROOM : goal.returns-then-len-gt-PAGE_ROOM
-returns-then-len-gt-PAGE_ROOM c =
-    let a = c.args in
-    let loop = c.loop-count in
-    let going = loop.invariant.going in
-    let cur = with_current loop.kept loop.balance in
-    replied_so _ _ going.text cur loop.next loop.count true _ c.new-page.ensures going.put (omega arith) c.len-then-len-gt-PAGE_ROOM.ensures
-    (going_short a.s.now a.from a.first a.most a.state cur loop.next loop.count going (omega (arith, c.len.ensures, c.if-len-gt-PAGE_ROOM.true)))
-    c.replayed.ensures
 
 pub returns-in-End : goal.returns-in-End
 returns-in-End c =
@@ -49,9 +40,9 @@ returns-in-End c =
     let loop = c.loop-count in
     let going = loop.invariant.going in
     let cur = with_current loop.kept loop.balance in
-    replied_so _ _ going.text cur loop.next loop.count false _ c.new-page.ensures going.put (omega arith) c.len-in-End.ensures
-    (going_ends a.s.now a.from a.first a.most a.state cur loop.next loop.count going c.loop-count-test.true (omega (arith, c.len.ensures, c.if-len-gt-PAGE_ROOM.false)) (asked a.s.now loop.next _ _ c.in-End.ensures refl))
-    c.replayed-in-End.ensures
+    replied_so _ _ going.text cur loop.next loop.count false _ c.new-page.ensures going.put (omega arith) c.len.ensures
+    (going_ends a.s.now a.from a.first a.most a.state cur loop.next loop.count going c.loop-count-test.true (omega (arith, loop.invariant.used, c.if-used-le-PAGE_ROOM.true)) (asked a.s.now loop.next _ _ c.in-End.ensures refl))
+    c.replayed.ensures
 
 pub returns-in-Fails : goal.returns-in-Fails
 returns-in-Fails c =
@@ -61,7 +52,7 @@ returns-in-Fails c =
     let cur = with_current loop.kept loop.balance in
     replied_so _ _ _ cur loop.next loop.count false _ c.new-page.ensures (then going.put c.refused_line.ensures)
     (omega arith) c.len-in-Fails.ensures
-    (going_fails a.s.now a.from a.first a.most a.state cur loop.next loop.count going c.loop-count-test.true (omega (arith, c.len.ensures, c.if-len-gt-PAGE_ROOM.false)) _ (asked a.s.now loop.next _ _ c.in-Fails.ensures refl))
+    (going_fails a.s.now a.from a.first a.most a.state cur loop.next loop.count going c.loop-count-test.true (omega (arith, loop.invariant.used, c.if-used-le-PAGE_ROOM.true)) _ (asked a.s.now loop.next _ _ c.in-Fails.ensures refl))
     c.replayed-in-Fails.ensures
 
 pub called-outcome-requires : goal.called-outcome-requires
@@ -98,7 +89,7 @@ pub bounds-kept-place : goal.bounds-kept-place
 bounds-kept-place c = within (goal.at.bounds-kept-place c).In-Ok-decide_back
 
 -- One request more is answered.
-module _ (c : After-put) where
+module _ (c : After-len-used) where
   abbrev cur : State
   cur = with_current c.loop-count.kept c.loop-count.balance
 
@@ -112,7 +103,7 @@ module _ (c : After-put) where
       ap (λ (n : ℕ). outcome_line (n + loop.count) c.match-record_at.outcome.0) c.from.ensures
       ∙ ap (outcome_line (c.args.first + loop.count)) q
       ∙ line in
-      going_on c.args.s.now c.args.from c.args.first c.args.most c.args.state cur loop.next loop.count loop.invariant.going c.loop-count-test.true (omega (arith, c.len.ensures, c.if-len-gt-PAGE_ROOM.false)) r to e next
+      going_on c.args.s.now c.args.from c.args.first c.args.most c.args.state cur loop.next loop.count loop.invariant.going c.loop-count-test.true (omega (arith, loop.invariant.used, c.if-used-le-PAGE_ROOM.true)) r to e next
       (restate c.put.ensures text) f
 
 pub loop-count-preserved : goal.loop-count-preserved
@@ -130,6 +121,7 @@ loop-count-preserved c =
           rw (w.whole-is, w.kept-is, w.balance-is, w.outcome-is)
           (record {
             going = on c (ask call) _ (asking _ w.in-Calls.ensures) _ (ap (λ (p : Outcome × ℕ). p.0) w.outcome-is ∙ w.called-outcome.ensures) line _ next;
+            used = c.len-used.ensures;
             tested = tested_call _ _ cur tested _ call next w.perform-balance.ensures.b_value;
           })
       | in-Calls+in_default w ↦
@@ -139,6 +131,7 @@ loop-count-preserved c =
           rw (w.whole-is, w.kept-is, w.balance-is, w.outcome-is)
           (record {
             going = on c (ask call) _ (asking _ w.in-Calls.ensures) _ (ap (λ (p : Outcome × ℕ). p.0) w.outcome-is ∙ w.called-outcome.ensures) line _ next;
+            used = c.len-used.ensures;
             tested = tested;
           })
       | in-Keeps w ↦
@@ -149,6 +142,7 @@ loop-count-preserved c =
           rw (w.whole-is, w.kept-is, w.balance-is, w.outcome-is)
           (record {
             going = on c (keep name) _ request _ (ap (λ (p : Outcome × ℕ). p.0) w.outcome-is ∙ w.answered.ensures) line _ kept.state;
+            used = c.len-used.ensures;
             tested = tested_keep _ _ cur (tested_whole _ _ cur tested _ _ w.whole_sound-tested.ensures.known w.whole_sound-tested.ensures.value) _ name kept.state;
           })
       | in-Returns+in-Ok-decide_back w ↦
@@ -160,6 +154,7 @@ loop-count-preserved c =
           rw (w.whole-is, w.kept-is, w.balance-is, w.outcome-is)
           (record {
             going = on c (back name) _ request _ (ap (λ (p : Outcome × ℕ). p.0) w.outcome-is) line _ next;
+            used = c.len-used.ensures;
             tested = tested_back _ _ cur (tested_whole _ _ cur tested _ _ w.whole_sound-tested-in-Returns.ensures.known w.whole_sound-tested-in-Returns.ensures.value) _ name next;
           })
       | in-Returns+in-Err w ↦
@@ -171,6 +166,7 @@ loop-count-preserved c =
           rw (w.whole-is, w.kept-is, w.balance-is, w.outcome-is)
           (record {
             going = on c (back name) _ request _ (ap (λ (p : Outcome × ℕ). p.0) w.outcome-is ∙ w.refused.ensures) line _ next;
+            used = c.len-used.ensures;
             tested = tested_whole _ _ cur tested _ _ w.whole_sound-tested-in-Returns.ensures.known w.whole_sound-tested-in-Returns.ensures.value;
           })
     ]
@@ -181,8 +177,10 @@ returns c =
     let loop = c.loop-count in
     let going = loop.invariant.going in
     let cur = with_current loop.kept loop.balance in
-    let all : a.most ≡ loop.count = omega (arith, going.few) in
-    replied_so _ _ going.text cur loop.next a.most true _ c.new-page.ensures going.put (omega arith) c.len-2.ensures
-    (ap (λ (n : ℕ). record { text = going.text; state = cur; next = loop.next; count = n; more = true }) all
-    ∙ going_full a.s.now a.from a.first a.most a.state cur loop.next loop.count going (omega (arith, c.loop-count-test.false)))
+    replied_so _ _ going.text cur loop.next loop.count true _ c.new-page.ensures going.put (omega arith) c.len-2.ensures
+    (elim c.loop-count-test.branch [
+      | then-loop-count-test+else-used-le-PAGE_ROOM w ↦
+          going_short a.s.now a.from a.first a.most a.state cur loop.next loop.count going (omega (arith, loop.invariant.used, w.if-used-le-PAGE_ROOM.false))
+      | else-loop-count-test w ↦ going_full a.s.now a.from a.first a.most a.state cur loop.next loop.count going (omega (arith, w.loop-count-test.false))
+    ])
     c.replayed-2.ensures
