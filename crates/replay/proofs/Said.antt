@@ -11,8 +11,12 @@ use Rattle.requests.specs.Requests.{keep, back}
 use Rattle.report.specs.Calls.{outcome_line}
 use Rattle.report.specs.declared.Outcome.TheVariants.{Kept, Back}
 use Rattle.listing.specs.Outcomes.{answered}
-use Rattle.replay.specs.Page.{back_text, reply_text}
-use Rattle.replay.proofs.Steps.{kept_line}
+use Rattle.replay.specs.Page.{kept_text, back_text, reply_text}
+
+-- The line of what a keeping came to, by its answer.
+kept_line : (k : ℕ) (a : Answer) → outcome_line k (answered a Kept) ≡ kept_text k a
+kept_line k (Ok u) = refl
+kept_line k (Err r) = refl
 
 pub keeping_said : (k : ℕ) (st : State) (n : Name) → reply_text k st (keep n) ≡ outcome_line k (answered (keep_reply st n).answer Kept)
 keeping_said k st n = sym (kept_line k (keep_reply st n).answer)

@@ -1,5 +1,5 @@
 -- `replay::replies` meets its contract. Assumes nothing.
-use Prim.Native.Nat.{ℕ, ◌+◌, ◌<◌}
+use Prim.Native.Nat.{ℕ, ◌+◌}
 use mathlib.Core.Path.{◌≡◌, refl, sym, ap, ◌∙◌}
 use mathlib.Core.Bool.{true, false}
 use native.Mathlib.Omega.{arith}
@@ -9,8 +9,6 @@ use Rattle.register.proofs.Keeping.{accepted_from_sound}
 use Rattle.planning.specs.declared.Name.{Name}
 use Rattle.planning.specs.declared.State.{State}
 use Rattle.planning.specs.Calls.{with_current}
-use Rattle.planning.proofs.Replying.{standing}
-use Rattle.planning.proofs.Deciding.{to_within}
 use Rattle.requests.specs.declared.RecordAt.{RecordAt}
 use Rattle.requests.specs.Records.{record_at}
 use Rattle.requests.specs.Requests.{Request, ask, keep, back, state_after, asks, request_at}
@@ -18,13 +16,13 @@ use Rattle.text.proofs.Pages.{then, restate}
 use Rattle.report.specs.declared.Outcome.{Outcome}
 use Rattle.report.specs.Calls.{outcome_line}
 use Rattle.listing.proofs.Calling.{called_line}
-use Rattle.replay.specs.Page.{kept_text, back_text, reply_text}
+use Rattle.replay.specs.Page.{reply_text}
 use Rattle.replay.proofs.Records.{asked, keeps_onward, returns_onward}
 use Rattle.replay.proofs.Replaying.{Going, going_start, going_on, going_ends, going_fails, going_short, going_full, replied_so}
-use Rattle.planning.specs.declared.Reply.{Reply}
-use Rattle.replay.proofs.Steps.{back_said, back_by_decision, tested_whole, tested_call, tested_keep, tested_back, kept_line, refused_state}
+use Rattle.replay.proofs.Said.{keeping_said, return_said}
+use Rattle.replay.proofs.Steps.{tested_whole, tested_call, tested_keep, tested_back, refused_state}
 use Rattle.replay.proofs.page.replies.Goals as goal
-use Rattle.replay.proofs.page.replies.Goals.{After-len-used, In-Ok-decide_back, in-Calls+in-Ok, in-Calls+in_default, in-Keeps, in-Returns+in-Ok-decide_back, in-Returns+in-Err, then-loop-count-test+else-used-le-PAGE_ROOM, else-loop-count-test}
+use Rattle.replay.proofs.page.replies.Goals.{After-len-used, in-Calls+in-Ok, in-Calls+in_default, in-Keeps, in-Returns, then-loop-count-test+else-used-le-PAGE_ROOM, else-loop-count-test}
 
 pub loop-count-init : goal.loop-count-init
 loop-count-init c =
@@ -69,24 +67,6 @@ overflow_add-next-in-Returns c = omega (arith, returns_onward c.args.s.now c.loo
 
 pub name_at-name-requires-in-Returns : goal.name_at-name-requires-in-Returns
 name_at-name-requires-in-Returns c = omega (arith, returns_onward c.args.s.now c.loop-count.next _ c.in-Returns.ensures _ refl)
-
-pub decide_back-requires : goal.decide_back-requires
-decide_back-requires c =
-    let cur = with_current c.loop-count.kept c.loop-count.balance in λ e. (standing cur (sym c.whole_sound-tested-in-Returns.ensures.value ∙ e)).few
-
--- The place to go back to is one of the four.
-within : (c : In-Ok-decide_back) → c.in-Ok-decide_back.place < 4
-within c =
-    let loop = c.loop-count in
-    let cur = with_current loop.kept loop.balance in
-    let name = c.name_at-name-in-Returns.result in
-    to_within cur name _ (sym (back_said _ cur c.whole_sound-tested-in-Returns.ensures.value name _ c.decide_back.ensures) ∙ c.in-Ok-decide_back.is)
-
-pub offset_bounds-kept-place : goal.offset_bounds-kept-place
-offset_bounds-kept-place c = omega (arith, within (goal.at.offset_bounds-kept-place c).In-Ok-decide_back)
-
-pub bounds-kept-place : goal.bounds-kept-place
-bounds-kept-place c = within (goal.at.bounds-kept-place c).In-Ok-decide_back
 
 -- One request more is answered.
 module _ (c : After-len-used) where
@@ -136,38 +116,25 @@ loop-count-preserved c =
           })
       | in-Keeps w ↦
           let name = w.name_at-name.result in
-          let kept = w.keep_apart-answer.ensures in
           let request = asking _ w.in-Keeps.ensures ∙ ap (λ (n : Name). asks (keep n) w.in-Keeps.to) (sym w.name_at-name.ensures) in
-          let line = kept_line k w.keep_apart-answer.result ∙ ap (kept_text k) kept.answer in
+          let line = sym (keeping_said k cur name) in
+          let next = w.keeping.ensures.state in
           rw (w.whole-is, w.kept-is, w.balance-is, w.outcome-is)
           (record {
-            going = on c (keep name) _ request _ (ap (λ (p : Outcome × ℕ). p.0) w.outcome-is ∙ w.answered.ensures) line _ kept.state;
+            going = on c (keep name) _ request _ (ap (λ (p : Outcome × ℕ). p.0) w.outcome-is ∙ w.keeping.ensures.said) line _ next;
             used = c.len-used.ensures;
-            tested = tested_keep _ _ cur (tested_whole _ _ cur tested _ _ w.whole_sound-tested.ensures.known w.whole_sound-tested.ensures.value) _ name kept.state;
+            tested = tested_keep _ _ cur (tested_whole _ _ cur tested _ w.keeping.ensures.known) _ name next;
           })
-      | in-Returns+in-Ok-decide_back w ↦
+      | in-Returns w ↦
           let name = w.name_at-name-in-Returns.result in
           let request = asking _ w.in-Returns.ensures ∙ ap (λ (n : Name). asks (back n) w.in-Returns.to) (sym w.name_at-name-in-Returns.ensures) in
-          let done = back_by_decision _ cur w.whole_sound-tested-in-Returns.ensures.value name _ w.decide_back.ensures _ w.in-Ok-decide_back.is in
-          let line = ap (λ (r : Reply). back_text k r.answer) done in
-          let next = ap (λ (r : Reply). r.state) done in
+          let line = sym (return_said k cur name) in
+          let next = w.returning.ensures.state in
           rw (w.whole-is, w.kept-is, w.balance-is, w.outcome-is)
           (record {
-            going = on c (back name) _ request _ (ap (λ (p : Outcome × ℕ). p.0) w.outcome-is) line _ next;
+            going = on c (back name) _ request _ (ap (λ (p : Outcome × ℕ). p.0) w.outcome-is ∙ w.returning.ensures.said) line _ next;
             used = c.len-used.ensures;
-            tested = tested_back _ _ cur (tested_whole _ _ cur tested _ _ w.whole_sound-tested-in-Returns.ensures.known w.whole_sound-tested-in-Returns.ensures.value) _ name next;
-          })
-      | in-Returns+in-Err w ↦
-          let name = w.name_at-name-in-Returns.result in
-          let request = asking _ w.in-Returns.ensures ∙ ap (λ (n : Name). asks (back n) w.in-Returns.to) (sym w.name_at-name-in-Returns.ensures) in
-          let done = back_by_decision _ cur w.whole_sound-tested-in-Returns.ensures.value name _ w.decide_back.ensures _ w.in-Err.is in
-          let line = ap (λ (r : Reply). back_text k r.answer) done in
-          let next = ap (λ (r : Reply). r.state) done in
-          rw (w.whole-is, w.kept-is, w.balance-is, w.outcome-is)
-          (record {
-            going = on c (back name) _ request _ (ap (λ (p : Outcome × ℕ). p.0) w.outcome-is ∙ w.refused.ensures) line _ next;
-            used = c.len-used.ensures;
-            tested = tested_whole _ _ cur tested _ _ w.whole_sound-tested-in-Returns.ensures.known w.whole_sound-tested-in-Returns.ensures.value;
+            tested = tested_back _ _ cur (tested_whole _ _ cur tested _ w.returning.ensures.known) _ name next;
           })
     ]
 
