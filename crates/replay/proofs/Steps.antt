@@ -21,8 +21,7 @@ use Rattle.planning.specs.declared.Reply.{Reply}
 use Rattle.planning.specs.Names.{place_limit, distinct}
 use Rattle.planning.specs.State.{Sized, name_at, kept_sound, sound_state}
 use Rattle.planning.specs.Calls.{place_in, with_current, back_reply}
-use Rattle.planning.specs.Decision.{back_decision, back_as}
-use Rattle.planning.proofs.Deciding.{back_decided}
+use Rattle.planning.specs.Decision.{back_decision}
 use Rattle.planning.proofs.Replying.{standing, back_faulty}
 use Rattle.planning.proofs.Promises.{keep_keeps, back_keeps, keep_stays, back_stays}
 use Rattle.requests.specs.Requests.{ask, keep, back, state_after}
@@ -48,10 +47,10 @@ back_sound st n z =
     (λ e. ap (λ (r : Reply). sound (view_of r.state.balance)) (sym (back_faulty st n e)))
 
 -- The test of the whole state was made, and its answer is known from then on.
-pub tested_whole : (test : Bool) (whole : Option Bool) (st : State) → Tested test whole st → (known : Option Bool) (answer : Bool) → known ≡ Some answer
-    → answer ≡ sound_state st → Tested test known st
-tested_whole test whole st t known answer is e =
-    record { balance = t.balance; state = λ a q. sym (same_Some answer a (sym is ∙ q)) ∙ e; sized = t.sized }
+pub tested_whole : (test : Bool) (whole : Option Bool) (st : State) → Tested test whole st → (known : Option Bool) → known ≡ Some (sound_state st)
+    → Tested test known st
+tested_whole test whole st t known is =
+    record { balance = t.balance; state = λ a q. sym (same_Some (sound_state st) a (sym is ∙ q)); sized = t.sized }
 
 -- Every request keeps that.
 module _ (test : Bool) (whole : Option Bool) (st : State) (t : Tested test whole st) (next : State) where
@@ -85,10 +84,7 @@ module _ (test : Bool) (whole : Option Bool) (st : State) (t : Tested test whole
 pub refused_state : (st : State) (c : Call) (a : Answer) (x : Refusal) → a ≡ (call_reply st.balance c).answer → a ≡ Err x → st ≡ state_after st (ask c)
 refused_state st c a x e q = ap (with_current st) (sym (refused_keeps st.balance c x (sym e ∙ q)).0)
 
--- Going back, by what was decided.
-module _ (whole : Bool) (st : State) (t : whole ≡ sound_state st) (n : Name) (d : Result ℕ Refusal) (e : d ≡ back_decision whole (place_in st n)) where
-  pub back_said : d ≡ back_decision (sound_state st) (place_in st n)
-  back_said = e ∙ ap (λ (u : Bool). back_decision u (place_in st n)) t
-
-  pub back_by_decision : (x : Result ℕ Refusal) → d ≡ x → back_as st x ≡ back_reply st n
-  back_by_decision x q = ap (back_as st) (sym q ∙ back_said) ∙ sym (back_decided st n)
+-- What was decided on going back, by the test that was made.
+pub back_said : (whole : Bool) (st : State) → whole ≡ sound_state st → (n : Name) (d : Result ℕ Refusal) → d ≡ back_decision whole (place_in st n)
+    → d ≡ back_decision (sound_state st) (place_in st n)
+back_said whole st t n d e = e ∙ ap (λ (u : Bool). back_decision u (place_in st n)) t

@@ -14,7 +14,7 @@ use Rattle.listing.specs.Outcomes.{answered}
 use Rattle.replies.specs.Reply.{kept_text, back_text, reply_text}
 
 -- The line of what a keeping came to, by its answer.
-pub kept_line : (k : ℕ) (a : Answer) → outcome_line k (answered a Kept) ≡ kept_text k a
+kept_line : (k : ℕ) (a : Answer) → outcome_line k (answered a Kept) ≡ kept_text k a
 kept_line k (Ok u) = refl
 kept_line k (Err r) = refl
 

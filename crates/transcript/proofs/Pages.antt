@@ -1,5 +1,5 @@
--- What a journal promises: how far its pages go, that they join, how many records fit on one, that the allowance of records never runs out, the state after them, and that it
--- prints what a book prints where it has no record of its own. Assumes nothing.
+-- What a journal promises: how far its pages go, that they join, that one by room is one by count, that the allowance of records never runs out,
+-- the state after them, and that it prints what a book prints where it has no record of its own. Assumes nothing.
 use Rattle.std.specs.Prelude.{Ok, Err, Option, Some, None}
 use Prim.Native.Nat.{ℕ, zero, suc, ◌+◌, ◌-◌, ◌*◌, ◌≤◌, ◌<◌}
 use mathlib.Core.Path.{◌≡◌, refl, sym, ap, ap₂, subst, ◌∙◌}
@@ -148,7 +148,7 @@ pages_join (suc m) n k st s at =
     let all : suc m + n ≡ suc (m + n) = omega arith in
     ap (λ (x : ℕ). page_of x k st s at) all ∙ join_one m n k st s at (λ k st to. pages_join m n k st s to) (request_at s at) refl
 
--- A page that ends by the room of the buffer is one of as many records as fit, and one fits at least where there is room for the longest reply.
+-- A page that ends by the room of the buffer is a page of some number of records, at least one where there is room for the longest reply.
 pub record Fitting (m u k : ℕ) (st : State) (s : List ℕ) (at : ℕ) : Type 0 where
   pub most : ℕ
   pub few : most ≤ m

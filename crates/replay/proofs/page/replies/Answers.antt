@@ -1,5 +1,5 @@
 -- `replay::replies` meets its contract. Assumes nothing.
-use Prim.Native.Nat.{ℕ, ◌+◌, ◌<◌}
+use Prim.Native.Nat.{ℕ, ◌+◌}
 use mathlib.Core.Path.{◌≡◌, refl, sym, ap, ◌∙◌}
 use mathlib.Core.Bool.{true, false}
 use lib.ListN.{length}
@@ -10,8 +10,6 @@ use Rattle.register.proofs.Keeping.{accepted_from_sound}
 use Rattle.planning.specs.declared.Name.{Name}
 use Rattle.planning.specs.declared.State.{State}
 use Rattle.planning.specs.Calls.{with_current}
-use Rattle.planning.proofs.Replying.{standing}
-use Rattle.planning.proofs.Deciding.{to_within}
 use Rattle.requests.specs.declared.RecordAt.{RecordAt}
 use Rattle.requests.specs.Records.{record_at}
 use Rattle.requests.specs.Watched.{watched_at, watched_reply}
@@ -20,31 +18,21 @@ use Rattle.text.proofs.Pages.{then, restate}
 use Rattle.report.specs.declared.Outcome.{Outcome}
 use Rattle.report.specs.Calls.{outcome_line}
 use Rattle.listing.proofs.Calling.{called_line}
-use Rattle.replies.specs.Reply.{kept_text, back_text, windows_text, reply_text}
+use Rattle.replies.specs.Reply.{windows_text, reply_text}
+use Rattle.replies.proofs.Said.{keeping_said, return_said}
 use Rattle.replay.proofs.Records.{asked, keeps_onward, returns_onward, watches_onward}
 use Rattle.replay.proofs.Replaying.{Going, going_start, going_on, going_ends, going_fails, going_short, going_full, replied_so}
-use Rattle.planning.specs.declared.Reply.{Reply}
-use Rattle.replies.proofs.Said.{kept_line}
-use Rattle.replay.proofs.Steps.{back_said, back_by_decision, tested_whole, tested_call, tested_keep, tested_back, refused_state}
+use Rattle.replay.proofs.Steps.{tested_whole, tested_call, tested_keep, tested_back, refused_state}
 use Rattle.replay.proofs.page.replies.Goals as goal
-use Rattle.replay.proofs.page.replies.Goals.{After-put, In-Ok-decide_back, in-Calls+in-Ok, in-Calls+in_default, in-Keeps, in-Returns+in-Ok-decide_back, in-Returns+in-Err}
+use Rattle.replay.proofs.page.replies.Goals.{After-len-used-in-loop-count, in-Calls+in-Ok, in-Calls+in_default, in-Keeps, in-Returns, then-loop-count-test+else-used-le-PAGE_ROOM, else-loop-count-test}
 
 pub loop-count-init : goal.loop-count-init
 loop-count-init c =
     record {
       going = going_start c.args.s.now c.args.from c.args.first c.args.most c.args.state c.new-page.result (omega arith) c.new-page.ensures.empty;
+      used = sym c.new-page.ensures.empty;
       tested = record { balance = c.sound-sound.ensures; state = λ answer q. elim (none-some answer q) [ ]; sized = record { kept = omega arith } };
     }
-
-pub returns-then-len-gt-PAGE_ROOM : goal.returns-then-len-gt-PAGE_ROOM
-returns-then-len-gt-PAGE_ROOM c =
-    let a = c.args in
-    let loop = c.loop-count in
-    let going = loop.invariant.going in
-    let cur = with_current loop.kept loop.balance in
-    replied_so _ _ going.text cur loop.next loop.count true _ c.new-page.ensures going.put (omega arith) c.len-then-len-gt-PAGE_ROOM.ensures
-    (going_short a.s.now a.from a.first a.most a.state cur loop.next loop.count going (omega (arith, c.len.ensures, c.if-len-gt-PAGE_ROOM.true)))
-    c.replayed.ensures
 
 pub returns-in-End : goal.returns-in-End
 returns-in-End c =
@@ -52,9 +40,9 @@ returns-in-End c =
     let loop = c.loop-count in
     let going = loop.invariant.going in
     let cur = with_current loop.kept loop.balance in
-    replied_so _ _ going.text cur loop.next loop.count false _ c.new-page.ensures going.put (omega arith) c.len-in-End.ensures
-    (going_ends a.s.now a.from a.first a.most a.state cur loop.next loop.count going c.loop-count-test.true (omega (arith, c.len.ensures, c.if-len-gt-PAGE_ROOM.false)) (asked a.s.now loop.next _ _ c.in-End.ensures refl))
-    c.replayed-in-End.ensures
+    replied_so _ _ going.text cur loop.next loop.count false _ c.new-page.ensures going.put (omega arith) c.len.ensures
+    (going_ends a.s.now a.from a.first a.most a.state cur loop.next loop.count going c.loop-count-test.true (omega (arith, loop.invariant.used, c.if-used-le-PAGE_ROOM.true)) (asked a.s.now loop.next _ _ c.in-End.ensures refl))
+    c.replayed.ensures
 
 pub returns-in-Fails : goal.returns-in-Fails
 returns-in-Fails c =
@@ -64,7 +52,7 @@ returns-in-Fails c =
     let cur = with_current loop.kept loop.balance in
     replied_so _ _ _ cur loop.next loop.count false _ c.new-page.ensures (then going.put c.refused_line.ensures)
     (omega arith) c.len-in-Fails.ensures
-    (going_fails a.s.now a.from a.first a.most a.state cur loop.next loop.count going c.loop-count-test.true (omega (arith, c.len.ensures, c.if-len-gt-PAGE_ROOM.false)) _ (asked a.s.now loop.next _ _ c.in-Fails.ensures refl))
+    (going_fails a.s.now a.from a.first a.most a.state cur loop.next loop.count going c.loop-count-test.true (omega (arith, loop.invariant.used, c.if-used-le-PAGE_ROOM.true)) _ (asked a.s.now loop.next _ _ c.in-Fails.ensures refl))
     c.replayed-in-Fails.ensures
 
 pub called-outcome-requires : goal.called-outcome-requires
@@ -82,26 +70,8 @@ overflow_add-next-in-Returns c = omega (arith, returns_onward c.args.s.now c.loo
 pub name_at-name-requires-in-Returns : goal.name_at-name-requires-in-Returns
 name_at-name-requires-in-Returns c = omega (arith, returns_onward c.args.s.now c.loop-count.next _ c.in-Returns.ensures _ refl)
 
-pub decide_back-requires : goal.decide_back-requires
-decide_back-requires c =
-    let cur = with_current c.loop-count.kept c.loop-count.balance in λ e. (standing cur (sym c.whole_sound-tested-in-Returns.ensures.value ∙ e)).few
-
--- The place to go back to is one of the four.
-within : (c : In-Ok-decide_back) → c.in-Ok-decide_back.place < 4
-within c =
-    let loop = c.loop-count in
-    let cur = with_current loop.kept loop.balance in
-    let name = c.name_at-name-in-Returns.result in
-    to_within cur name _ (sym (back_said _ cur c.whole_sound-tested-in-Returns.ensures.value name _ c.decide_back.ensures) ∙ c.in-Ok-decide_back.is)
-
-pub offset_bounds-kept-place : goal.offset_bounds-kept-place
-offset_bounds-kept-place c = omega (arith, within (goal.at.offset_bounds-kept-place c).In-Ok-decide_back)
-
-pub bounds-kept-place : goal.bounds-kept-place
-bounds-kept-place c = within (goal.at.bounds-kept-place c).In-Ok-decide_back
-
 -- One request more is answered.
-module _ (c : After-put) where
+module _ (c : After-len-used-in-loop-count) where
   abbrev cur : State
   cur = with_current c.loop-count.kept c.loop-count.balance
 
@@ -112,10 +82,10 @@ module _ (c : After-put) where
   on r to e o q line next f =
       let loop = c.loop-count in
       let text =
-      ap (λ (n : ℕ). outcome_line (n + loop.count) c.match-record_at.outcome.0) c.from.ensures
+      ap (λ (n : ℕ). outcome_line (n + loop.count) c.match-record_at.outcome.0) c.from-in-loop-count.ensures
       ∙ ap (outcome_line (c.args.first + loop.count)) q
       ∙ line in
-      going_on c.args.s.now c.args.from c.args.first c.args.most c.args.state cur loop.next loop.count loop.invariant.going c.loop-count-test.true (omega (arith, c.len.ensures, c.if-len-gt-PAGE_ROOM.false)) r to e next
+      going_on c.args.s.now c.args.from c.args.first c.args.most c.args.state cur loop.next loop.count loop.invariant.going c.loop-count-test.true (omega (arith, loop.invariant.used, c.if-used-le-PAGE_ROOM.true)) r to e next
       (restate c.put.ensures text) f
 
 pub loop-count-preserved : goal.loop-count-preserved
@@ -133,6 +103,7 @@ loop-count-preserved c =
           rw (w.whole-is, w.kept-is, w.balance-is, w.outcome-is)
           (record {
             going = on c (ask call) _ (asking _ w.in-Calls.ensures) _ (ap (λ (p : Outcome × ℕ). p.0) w.outcome-is ∙ w.called-outcome.ensures) line _ next;
+            used = c.len-used-in-loop-count.ensures;
             tested = tested_call _ _ cur tested _ call next w.perform-balance.ensures.b_value;
           })
       | in-Calls+in_default w ↦
@@ -142,53 +113,32 @@ loop-count-preserved c =
           rw (w.whole-is, w.kept-is, w.balance-is, w.outcome-is)
           (record {
             going = on c (ask call) _ (asking _ w.in-Calls.ensures) _ (ap (λ (p : Outcome × ℕ). p.0) w.outcome-is ∙ w.called-outcome.ensures) line _ next;
+            used = c.len-used-in-loop-count.ensures;
             tested = tested;
           })
       | in-Keeps w ↦
           let name = w.name_at-name.result in
-          let kept = w.keep_apart-answer.ensures in
           let request = asking _ w.in-Keeps.ensures ∙ ap (λ (n : Name). asks (keep n) w.in-Keeps.to) (sym w.name_at-name.ensures) in
-          let line = kept_line k w.keep_apart-answer.result ∙ ap (kept_text k) kept.answer in
+          let line = sym (keeping_said k cur name) in
+          let next = w.keeping.ensures.state in
           rw (w.whole-is, w.kept-is, w.balance-is, w.outcome-is)
           (record {
-            going = on c (keep name) _ request _ (ap (λ (p : Outcome × ℕ). p.0) w.outcome-is ∙ w.answered.ensures) line _ kept.state;
-            tested = tested_keep _ _ cur (tested_whole _ _ cur tested _ _ w.whole_sound-tested.ensures.known w.whole_sound-tested.ensures.value) _ name kept.state;
+            going = on c (keep name) _ request _ (ap (λ (p : Outcome × ℕ). p.0) w.outcome-is ∙ w.keeping.ensures.said) line _ next;
+            used = c.len-used-in-loop-count.ensures;
+            tested = tested_keep _ _ cur (tested_whole _ _ cur tested _ w.keeping.ensures.known) _ name next;
           })
-      | in-Returns+in-Ok-decide_back w ↦
+      | in-Returns w ↦
           let name = w.name_at-name-in-Returns.result in
           let request = asking _ w.in-Returns.ensures ∙ ap (λ (n : Name). asks (back n) w.in-Returns.to) (sym w.name_at-name-in-Returns.ensures) in
-          let done = back_by_decision _ cur w.whole_sound-tested-in-Returns.ensures.value name _ w.decide_back.ensures _ w.in-Ok-decide_back.is in
-          let line = ap (λ (r : Reply). back_text k r.answer) done in
-          let next = ap (λ (r : Reply). r.state) done in
+          let line = sym (return_said k cur name) in
+          let next = w.returning.ensures.state in
           rw (w.whole-is, w.kept-is, w.balance-is, w.outcome-is)
           (record {
-            going = on c (back name) _ request _ (ap (λ (p : Outcome × ℕ). p.0) w.outcome-is) line _ next;
-            tested = tested_back _ _ cur (tested_whole _ _ cur tested _ _ w.whole_sound-tested-in-Returns.ensures.known w.whole_sound-tested-in-Returns.ensures.value) _ name next;
-          })
-      | in-Returns+in-Err w ↦
-          let name = w.name_at-name-in-Returns.result in
-          let request = asking _ w.in-Returns.ensures ∙ ap (λ (n : Name). asks (back n) w.in-Returns.to) (sym w.name_at-name-in-Returns.ensures) in
-          let done = back_by_decision _ cur w.whole_sound-tested-in-Returns.ensures.value name _ w.decide_back.ensures _ w.in-Err.is in
-          let line = ap (λ (r : Reply). back_text k r.answer) done in
-          let next = ap (λ (r : Reply). r.state) done in
-          rw (w.whole-is, w.kept-is, w.balance-is, w.outcome-is)
-          (record {
-            going = on c (back name) _ request _ (ap (λ (p : Outcome × ℕ). p.0) w.outcome-is ∙ w.refused.ensures) line _ next;
-            tested = tested_whole _ _ cur tested _ _ w.whole_sound-tested-in-Returns.ensures.known w.whole_sound-tested-in-Returns.ensures.value;
+            going = on c (back name) _ request _ (ap (λ (p : Outcome × ℕ). p.0) w.outcome-is ∙ w.returning.ensures.said) line _ next;
+            used = c.len-used-in-loop-count.ensures;
+            tested = tested_back _ _ cur (tested_whole _ _ cur tested _ w.returning.ensures.known) _ name next;
           })
     ]
-
-pub returns : goal.returns
-returns c =
-    let a = c.args in
-    let loop = c.loop-count in
-    let going = loop.invariant.going in
-    let cur = with_current loop.kept loop.balance in
-    let all : a.most ≡ loop.count = omega (arith, going.few) in
-    replied_so _ _ going.text cur loop.next a.most true _ c.new-page.ensures going.put (omega arith) c.len-2.ensures
-    (ap (λ (n : ℕ). record { text = going.text; state = cur; next = loop.next; count = n; more = true }) all
-    ∙ going_full a.s.now a.from a.first a.most a.state cur loop.next loop.count going (omega (arith, c.loop-count-test.false)))
-    c.replayed-2.ensures
 
 -- The moving window is within the journal, and its lines have room.
 pub watched-requires : goal.watched-requires
@@ -197,7 +147,7 @@ watched-requires c =
     let going = loop.invariant.going in
     let w = watches_onward c.args.s.now loop.next _ c.in-Watches.ensures _ refl in
     let size = ap length c.new-page.ensures.bytes in
-    (omega (arith, w.0, w.1), omega (arith, c.len.ensures, c.if-len-gt-PAGE_ROOM.false, going.put.put.short, going.put.put.place, going.put.size, size, c.fits-out))
+    (omega (arith, w.0, w.1), omega (arith, loop.invariant.used, c.if-used-le-PAGE_ROOM.true, going.put.put.short, going.put.put.place, going.put.size, size, c.fits-out))
 
 -- It leaves the state.
 pub loop-count-preserved-in-Watches : goal.loop-count-preserved-in-Watches
@@ -210,7 +160,22 @@ loop-count-preserved-in-Watches c =
     let text = ap (λ (n : ℕ). windows_text (n + loop.count) (watched_reply w)) c.from.ensures in
     record {
       going =
-          going_on a.s.now a.from a.first a.most a.state cur loop.next loop.count loop.invariant.going c.loop-count-test.true (omega (arith, c.len.ensures, c.if-len-gt-PAGE_ROOM.false)) (watch w) _ request cur
-          (restate c.watched.ensures text) refl;
+          going_on a.s.now a.from a.first a.most a.state cur loop.next loop.count loop.invariant.going c.loop-count-test.true
+          (omega (arith, loop.invariant.used, c.if-used-le-PAGE_ROOM.true)) (watch w) _ request cur (restate c.watched.ensures text) refl;
+      used = c.len-used.ensures;
       tested = loop.invariant.tested;
     }
+
+pub returns : goal.returns
+returns c =
+    let a = c.args in
+    let loop = c.loop-count in
+    let going = loop.invariant.going in
+    let cur = with_current loop.kept loop.balance in
+    replied_so _ _ going.text cur loop.next loop.count true _ c.new-page.ensures going.put (omega arith) c.len-2.ensures
+    (elim c.loop-count-test.branch [
+      | then-loop-count-test+else-used-le-PAGE_ROOM w ↦
+          going_short a.s.now a.from a.first a.most a.state cur loop.next loop.count going (omega (arith, loop.invariant.used, w.if-used-le-PAGE_ROOM.false))
+      | else-loop-count-test w ↦ going_full a.s.now a.from a.first a.most a.state cur loop.next loop.count going (omega (arith, w.loop-count-test.false))
+    ])
+    c.replayed-2.ensures
