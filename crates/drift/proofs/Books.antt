@@ -128,8 +128,12 @@ module _ (plots : List Plot) (years : List ℕ) where
       ∙ soils_read (31 + length rest) s 31 [] plots years (omega (arith, enough)) refl (omega (arith, b.plots_from)) (omega (arith, b.plots_to)) (inside b).0
       (omega (arith, b.area)) b.width_to (inside b).1
 
+  pub lone_reading : Bookable plots years
+      → reading (rain_book plots (map tenths years)) ≡ read (alone plots (map year_of years)) (book_size (length plots) (length years))
+  lone_reading b =
+      reads_whole b
+      ∙ all_kept plots (map year_of years) (book_size (length plots) (length years)) b.plots_from (omega (arith, b.width_from, length-map years year_of))
+
   pub one_unit_book : OneUnitBook plots years
   one_unit_book b =
-      let size : ℕ = book_size (length plots) (length years) in
-      ap opened_as (reads_whole b ∙ all_kept plots (map year_of years) size b.plots_from (omega (arith, b.width_from, length-map years year_of)))
-      ∙ lone_opened plots (map year_of years) size
+      ap opened_as (lone_reading b) ∙ lone_opened plots (map year_of years) (book_size (length plots) (length years))

@@ -1,7 +1,7 @@
 -- Each value of a moving window is what a book of its years gives. Assumes nothing.
 use Rattle.std.proofs.lemmas.List.Elements.{All-take, All-drop}
 use Prim.Native.Nat.{ℕ, ◌≤◌}
-use mathlib.Core.Path.{◌≡◌, sym, ap, ◌∙◌}
+use mathlib.Core.Path.{◌≡◌, refl, sym, ap, ◌∙◌}
 use mathlib.Core.List.{List, map}
 use lib.ListN.{length, get_or, drop}
 use native.Mathlib.Omega.{arith}
@@ -22,7 +22,10 @@ use Rattle.window.specs.Handed.{RainInside, Handed}
 use Rattle.window.proofs.Sums.{length_window}
 use Rattle.window.proofs.Promises.{accepted_exactly, each_window}
 use Rattle.drift.specs.Windows.{Bookable, book_size, HasWindow, value, years_in, WindowAsABook, HoldsWindow, opened_runoff, WindowInEveryBook}
-use Rattle.drift.proofs.Books.{one_unit_book}
+use Rattle.drift.proofs.Books.{one_unit_book, lone_reading}
+use Rattle.drift.proofs.Growing.{alone}
+use Rattle.cases.specs.Printed.{tenths}
+use Rattle.cases.specs.OneUnit.{rain_book}
 
 module _ (plots : List Plot) (years : List ℕ) (width i : ℕ) (h : HasWindow plots years width i) where
   handed : Handed plots years width
@@ -75,3 +78,15 @@ opened_unit s d k plots years h =
 
 pub window_in_every_book : (plots : List Plot) (years : List ℕ) (width i : ℕ) → WindowInEveryBook plots years width i
 window_in_every_book plots years width i h s d k b = opened_unit s d k plots (years_in years width i) b ∙ sym (value_is plots years width i h)
+
+-- The book of one unit is one of those books.
+pub book_holds : (plots : List Plot) (years : List ℕ) (width i : ℕ) → HasWindow plots years width i
+    → HoldsWindow (rain_book plots (map tenths (years_in years width i))) (alone plots (map year_of (years_in years width i))) 0 plots (years_in years width i)
+book_holds plots years width i h =
+    record {
+      size = book_size (length plots) (length (years_in years width i));
+      accepted = lone_reading plots (years_in years width i) (bookable plots years width i h);
+      there = omega arith;
+      same_plots = refl;
+      same_years = refl;
+    }

@@ -1,4 +1,4 @@
--- The promise of keepings and returns, on every accepted book after every list of requests, refused ones included. Assumes nothing.
+-- The promise of keepings, returns and moving windows, on every accepted book after every list of requests, refused ones included. Assumes nothing.
 use Prim.Native.Nat.{ℕ}
 use mathlib.Core.Path.{◌≡◌, refl, ap, subst⁻¹, ◌∙◌}
 use mathlib.Core.Bool.{true}
@@ -52,7 +52,7 @@ module _ (d : Description) (b : Balance) (f : Follows d b start) where
       (λ i. p.tells i ∷ all_told (p.holds i) rs) ∙ ap (λ (l : List Said). telling d a r ∷ l) (told_is (asking a r) p.well rs)
 
 module _ (s : List ℕ) (d : Description) (at : ℕ) (e : reading s ≡ read d at) where
-  -- On every accepted book, after every list of calls, keepings and returns, the program's whole state is the one that what was asked
+  -- On every accepted book, after every list of requests, the program's whole state is the one that what was asked
   -- describes.
   pub state_follows : (rs : List Request) → states_after (opened_state s).state rs ≡ described (opened s).balance (history nothing_asked rs)
   state_follows rs =

@@ -1,2 +1,3 @@
 -- What is printed for each request of a journal.
 pub mod Reply
+pub mod Worked

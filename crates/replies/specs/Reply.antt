@@ -21,9 +21,9 @@ back_text k (Ok u) = call_back k
 back_text k (Err r) = call_refused k (number r)
 
 -- The line of a moving window: `windows` and how many there are, or `refused` with the refusal.
-abbrev pub told_text : ℕ → Answer → ℕ → List ℕ
-told_text k (Ok u) count = call_windows k count
-told_text k (Err r) count = call_refused k (number r)
+abbrev pub windows_line : ℕ → Answer → ℕ → List ℕ
+windows_line k (Ok u) count = call_windows k count
+windows_line k (Err r) count = call_refused k (number r)
 
 -- A window's line: its number, from 1, and its natural runoff.
 abbrev pub window_text : ℕ → ℕ → List ℕ
@@ -31,7 +31,7 @@ window_text runoff k = window_line (suc k) runoff
 
 -- The lines of a moving window: its own, and then one for each window, of which a refused one has none.
 abbrev pub windows_text : ℕ → Windows → List ℕ
-windows_text k w = told_text k w.answer w.count ++ lines_of w.count (λ i. window_text (get_or w.runoffs i 0) i)
+windows_text k w = windows_line k w.answer w.count ++ lines_of w.count (λ i. window_text (get_or w.runoffs i 0) i)
 
 -- The lines of a request at place k, by the answer and the number of its reply.
 abbrev pub request_line : ℕ → Request → Answer → ℕ → List ℕ
@@ -45,4 +45,4 @@ abbrev pub reply_text : ℕ → State → Request → List ℕ
 reply_text k st (ask c) = request_line k (ask c) (call_reply st.balance c).answer (call_reply st.balance c).number
 reply_text k st (keep n) = request_line k (keep n) (keep_reply st n).answer (keep_reply st n).number
 reply_text k st (back n) = request_line k (back n) (back_reply st n).answer (back_reply st n).number
-reply_text k st (watch w) = windows_text k (watched_reply w)
+reply_text k st (watch w) = request_line k (watch w) (watched_reply w).answer (watched_reply w).number

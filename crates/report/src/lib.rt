@@ -1,5 +1,5 @@
-// The lines that the program prints: words and whole numbers, of at most 128 bytes, a call's and a window's line of at most 64. That the page has room is asked at
-// each line and not by a type, which would hold it for one length only.
+// The lines that the program prints: words and whole numbers, of at most 128 bytes, a call's and a window's line of at most 64. That the page has room
+// is asked at each line and not by a type, which would hold it for one length only.
 #![tactic(auto)]
 
 ghost use Rattle.std.specs.Prelude.{map, ◌++◌};

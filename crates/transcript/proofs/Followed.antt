@@ -1,5 +1,5 @@
 -- Every journal whose opening is accepted is followed to its end: journals and the conservation of water joined. Assumes nothing.
-use Rattle.std.specs.Prelude.{Ok, Err}
+use Rattle.std.specs.Prelude.{Ok}
 use Prim.Native.Nat.{ℕ, zero, suc, ◌+◌, ◌≤◌}
 use mathlib.Core.Path.{◌≡◌, refl, sym, ap, subst⁻¹, ◌∙◌}
 use mathlib.Core.Bool.{true}
@@ -15,14 +15,11 @@ use Rattle.conservation.specs.Replies.{Said}
 use Rattle.planning.specs.declared.State.{State}
 use Rattle.planning.specs.State.{sound_state}
 use Rattle.planning.specs.Calls.{opened_state}
-use Rattle.runoff.specs.declared.Plot.{Plot}
-use Rattle.window.specs.Refused.{windows_refusal}
-use Rattle.window.specs.Window.{replied}
 use Rattle.requests.specs.Requests.{Request, ask, keep, back, watch, state_after, states_after, Asking, ends, fails, asks, request_at, requests_from}
 use Rattle.history.specs.Claim.{told, all_told, described, Conserved}
 use Rattle.history.proofs.Promise.{state_follows, replies_follow, demand_3_kept, state_sound}
 use Rattle.listing.specs.Listing.{table_text}
-use Rattle.replies.specs.Reply.{windows_text, request_line, reply_text}
+use Rattle.replies.specs.Reply.{request_line, reply_text}
 use Rattle.replay.specs.Page.{Page, page_of}
 use Rattle.replay.specs.Journal.{book_of, journal_opened, journal_limit, replies_text, opened_text, journal_text}
 use Rattle.replay.proofs.Replaying.{page_ends, page_fails, page_asks, page_none}
@@ -30,16 +27,11 @@ use Rattle.transcript.specs.Followed.{requests_in, asked_in, replies_in, told_li
 use Rattle.transcript.proofs.Pages.{page_state}
 
 -- The text of a reply is the line by what the program tells.
-windows_told : (k : ℕ) (a : Answer) (plots : List Plot) (years : List ℕ) (width : ℕ)
-    → windows_text k (replied a plots years width) ≡ windows_text k (replied (replied a plots years width).answer plots years width)
-windows_told k (Ok u) plots years width = refl
-windows_told k (Err r) plots years width = refl
-
 line_told : (k : ℕ) (st : State) (r : Request) → reply_text k st r ≡ request_line k r (told st r).answer (told st r).number
 line_told k st (ask c) = refl
 line_told k st (keep n) = refl
 line_told k st (back n) = refl
-line_told k st (watch w) = windows_told k (windows_refusal w.plots w.years w.width) w.plots w.years w.width
+line_told k st (watch w) = refl
 
 -- The lines of the requests of at most m records, and the line of a record that failed.
 abbrev lines_from : ℕ → ℕ → State → List ℕ → ℕ → List ℕ

@@ -16,7 +16,7 @@ use Rattle.runoff.specs.declared.Soils.{Soils}
 use Rattle.runoff.proofs.Record.{weighted_within}
 use Rattle.runoff.proofs.Rounding.{natural_within}
 use Rattle.runoff.proofs.Walking.{walked_from_none}
-use Rattle.window.specs.Window.{year_of, window, window_runoff, window_count, place_limit}
+use Rattle.window.specs.Window.{year_of, window, window_runoff, window_count, window_limit}
 use Rattle.window.specs.Moving.{window_sum, mean_at, means_of, Movable}
 use Rattle.window.specs.Handed.{SoilInside, RainInside, Handed}
 use Rattle.window.proofs.Sums.{length_window, window_within}
@@ -65,9 +65,9 @@ handed_movable plots years width h =
     }
 
 pub means_runoffs : (plots : List Plot) (years : List ℕ) (width : ℕ) → Handed plots years width
-    → means_of (walked no_soils plots) years width ≡ table place_limit 0 (window_count years width) (window_runoff plots years width)
+    → means_of (walked no_soils plots) years width ≡ table window_limit 0 (window_count years width) (window_runoff plots years width)
 means_runoffs plots years width h =
-    table_same place_limit 0 (window_count years width) _ _
+    table_same window_limit 0 (window_count years width) _ _
     (omega (arith, h.years_to, h.width_from))
     (λ k l. mean_runoff plots years width k (omega (arith, h.plots_from)) (omega (arith, h.years_from)))
 

@@ -13,7 +13,7 @@ use Rattle.model.specs.Answers.{Answer, refuse}
 use Rattle.model.proofs.Answers.{by_answer}
 use Rattle.runoff.specs.declared.Plot.{Plot}
 use Rattle.window.specs.Refused.{bad_window, windows_refusal}
-use Rattle.window.specs.Window.{window_runoff, window_count, place_limit, windows_reply, replied}
+use Rattle.window.specs.Window.{window_runoff, window_count, window_limit, windows_reply, replied}
 use Rattle.window.specs.Handed.{Handed, EachWindow, NoWindow}
 use Rattle.window.proofs.Accepted.{accepted_handed, handed_accepted}
 use Rattle.window.proofs.Means.{window_runoff_within}
@@ -34,7 +34,7 @@ module _ (plots : List Plot) (years : List ℕ) (width : ℕ) where
   pub each_window : (windows_reply plots years width).answer ≡ Ok tt → EachWindow plots years width (windows_reply plots years width)
   each_window e =
       let h = accepted_exactly.0 e in
-      let p = table_filled place_limit 0 (window_count years width) (window_runoff plots years width) (omega (arith, h.years_to, h.width_from)) in
+      let p = table_filled window_limit 0 (window_count years width) (window_runoff plots years width) (omega (arith, h.years_to, h.width_from)) in
       subst⁻¹ (λ (a : Answer). EachWindow plots years width (replied a plots years width)) (handed_accepted plots years width h)
       (record { number = refl; count = omega (arith, h.years_from); places = p.long; each = p.done; unused = p.rest })
 
@@ -43,7 +43,7 @@ module _ (plots : List Plot) (years : List ℕ) (width : ℕ) where
   no_window r e =
       subst⁻¹ (λ (a : Answer). NoWindow (replied a plots years width))
       (sym (replied_answer (windows_refusal plots years width) plots years width) ∙ e)
-      (record { number = refl; count = refl; places = length-replicate {A = ℕ} place_limit 0; unused = λ i. get_or_empty {A = ℕ} place_limit i 0 })
+      (record { number = refl; count = refl; places = length-replicate {A = ℕ} window_limit 0; unused = λ i. get_or_empty {A = ℕ} window_limit i 0 })
 
   -- No place holds more than 10,000,000.
   pub runoff_within : (i : ℕ) → get_or (windows_reply plots years width).runoffs i 0 ≤ 10000000

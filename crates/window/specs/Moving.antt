@@ -4,7 +4,7 @@ use Rattle.laws.specs.Table.{table}
 use Rattle.runoff.specs.Year.{rain_year}
 use Rattle.runoff.specs.Mean.{natural_runoff}
 use Rattle.runoff.specs.declared.Soils.{Soils}
-use Rattle.window.specs.Window.{window, window_count, place_limit}
+use Rattle.window.specs.Window.{window, window_count, window_limit}
 
 -- The sum of rain years on the soils with these two sums, in 6,000,000,000ths.
 abbrev pub years_on : Soils → List ℕ → ℕ
@@ -24,7 +24,7 @@ mean_at soils years width i = mean_of width (window_sum soils years width i)
 
 -- The means of all windows, and 0 in the unused places.
 abbrev pub means_of : Soils → List ℕ → ℕ → List ℕ
-means_of soils years width = table place_limit 0 (window_count years width) (mean_at soils years width)
+means_of soils years width = table window_limit 0 (window_count years width) (mean_at soils years width)
 
 -- Soils of at most 300,000 hectares and rain years of at most 21,500 tenths.
 pub record Yielding (soils : Soils) (years : List ℕ) : Type 0 where

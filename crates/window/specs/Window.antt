@@ -25,8 +25,8 @@ abbrev pub window_count : List ℕ → ℕ → ℕ
 window_count years width = length years + 1 - width
 
 -- A reply has 181 places, as many as a record of 200 years has windows of 20.
-abbrev pub place_limit : ℕ
-place_limit = 181
+abbrev pub window_limit : ℕ
+window_limit = 181
 
 -- Accepted: the natural runoff of each window, the first from the oldest years, and 0 in the unused places. Refused: 0 in all places. The
 -- number is 0, since no title is concerned.
@@ -36,9 +36,9 @@ replied (Ok u) plots years width =
       answer = Ok tt;
       number = 0;
       count = window_count years width;
-      runoffs = table place_limit 0 (window_count years width) (window_runoff plots years width);
+      runoffs = table window_limit 0 (window_count years width) (window_runoff plots years width);
     }
-replied (Err r) plots years width = record { answer = Err r; number = 0; count = 0; runoffs = replicate place_limit 0 }
+replied (Err r) plots years width = record { answer = Err r; number = 0; count = 0; runoffs = replicate window_limit 0 }
 
 -- The reply of the moving window.
 abbrev pub windows_reply : List Plot → List ℕ → ℕ → Windows

@@ -3,7 +3,7 @@ use Rattle.std.proofs.Common.{◌≡◌, ◌∙◌, sym, ap, Ok}
 use Rattle.laws.specs.Table.{table}
 use Rattle.model.specs.Answers.{Answer}
 use Rattle.runoff.specs.declared.Soils.{Soils}
-use Rattle.window.specs.Window.{window_runoff, window_count, place_limit, replied}
+use Rattle.window.specs.Window.{window_runoff, window_count, window_limit, replied}
 use Rattle.window.specs.Moving.{means_of}
 use Rattle.window.specs.Handed.{Handed}
 use Rattle.window.proofs.Accepted.{accepted_handed}
@@ -22,7 +22,7 @@ returns-in-Ok c =
     let plots = c.args.plots.now in
     let years = c.args.tenths.now in
     let width = c.args.width in
-    let runoffs : c.means.result ≡ table place_limit 0 (window_count years width) (window_runoff plots years width) =
+    let runoffs : c.means.result ≡ table window_limit 0 (window_count years width) (window_runoff plots years width) =
     c.means.ensures ∙ ap (λ (s : Soils). means_of s years width) c.in-Ok.ensures.1
     ∙ means_runoffs plots years width (handed (goal.at.returns-in-Ok c).In-Ok)
     in

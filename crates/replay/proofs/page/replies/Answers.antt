@@ -19,6 +19,7 @@ use Rattle.report.specs.declared.Outcome.{Outcome}
 use Rattle.report.specs.Calls.{outcome_line}
 use Rattle.listing.proofs.Calling.{called_line}
 use Rattle.replies.specs.Reply.{windows_text, reply_text}
+use Rattle.replies.proofs.Lines.{windows_said}
 use Rattle.replies.proofs.Said.{keeping_said, return_said}
 use Rattle.replay.proofs.Records.{asked, keeps_onward, returns_onward, watches_onward}
 use Rattle.replay.proofs.Replaying.{Going, going_start, going_on, going_ends, going_fails, going_short, going_full, replied_so}
@@ -157,7 +158,7 @@ loop-count-preserved-in-Watches c =
     let cur = with_current loop.kept loop.balance in
     let w = watched_at a.s.now loop.next in
     let request = asked a.s.now loop.next _ _ c.in-Watches.ensures refl in
-    let text = ap (λ (n : ℕ). windows_text (n + loop.count) (watched_reply w)) c.from.ensures in
+    let text = ap (λ (n : ℕ). windows_text (n + loop.count) (watched_reply w)) c.from.ensures ∙ windows_said (a.first + loop.count) cur w in
     record {
       going =
           going_on a.s.now a.from a.first a.most a.state cur loop.next loop.count loop.invariant.going c.loop-count-test.true
