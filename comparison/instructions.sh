@@ -45,9 +45,11 @@ while IFS=$'\t' read -r title row few many meaning; do
     if [ "$title" != "$table" ]; then
         table=$title
         printf '\n### %s\n\n' "$title"
+        line='---:|---:|'
         case $title in
-        *alls) more=' untested | proved / untested |' line='---:|---:|' ;;
-        *) more='' line='' ;;
+        *alls) fourth=untested more=' untested | proved / untested |' ;;
+        Windows) fourth=afresh more=' afresh | afresh / proved |' ;;
+        *) fourth='' more='' line='' ;;
         esac
         echo "| Row | Meaning | proved | plain | fast | proved / plain | proved / fast |$more"
         echo "|---|---|---:|---:|---:|---:|---:|$line"
@@ -56,9 +58,15 @@ while IFS=$'\t' read -r title row few many meaning; do
     plain=$(each "$row" plain "$few" "$many")
     fast=$(each "$row" fast "$few" "$many")
     last=''
-    if [ -n "$more" ]; then
+    case $fourth in
+    untested)
         untested=$(each "$row" untested "$few" "$many")
         last=" $untested | $(ratio "$proved" "$untested" 2) |"
-    fi
+        ;;
+    afresh)
+        afresh=$(each "$row" afresh "$few" "$many")
+        last=" $afresh | $(ratio "$afresh" "$proved" 2) |"
+        ;;
+    esac
     echo "| $row | $meaning | $proved | $plain | $fast | $(ratio "$proved" "$plain" 3) | $(ratio "$proved" "$fast" 2) |$last"
 done < <("$bench" --rows)

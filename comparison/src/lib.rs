@@ -8,3 +8,4 @@ pub mod proved;
 pub mod rows;
 pub mod states;
 pub mod times;
+pub mod windows;

@@ -1,4 +1,5 @@
-//! The proved library, by the interface in `../include/hasheqro.h`, and the functions that repeat what planning states do.
+//! The proved library, by the interface in `../include/hasheqro.h`, and the functions that repeat what planning states do and
+//! the reply to a moving window.
 
 use reference::basin::{MOST_AQUIFERS, MOST_UNITS};
 
@@ -53,6 +54,7 @@ mod link {
         pub fn hasheqro_reback(book: *const u8, length: usize, times: u64) -> u64;
         pub fn hasheqro_reask(book: *const u8, length: usize, times: u64) -> u64;
         pub fn hasheqro_rerecord(book: *const u8, length: usize, times: u64) -> u64;
+        pub fn hasheqro_rewatch(record: *const u8, length: usize, times: u32) -> u64;
     }
 }
 
@@ -108,4 +110,9 @@ pub fn reask(book: &[u8], times: u64) -> u64 {
 /// The same, replying to a journal's record that asks for that; how many records were answered.
 pub fn rerecord(book: &[u8], times: u64) -> u64 {
     unsafe { link::hasheqro_rerecord(book.as_ptr(), book.len(), times) }
+}
+
+/// Replies so many times to the moving window that bytes begin with; how many windows that gave in all.
+pub fn rewatch(record: &[u8], times: u32) -> u64 {
+    unsafe { link::hasheqro_rewatch(record.as_ptr(), record.len(), times) }
 }

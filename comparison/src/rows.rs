@@ -1,9 +1,11 @@
-//! What is timed: the rows of the tables, each for the three contestants.
+//! What is timed: the rows of the tables, each for its contestants.
 
 use crate::books::{self, Register, Tree, UNITS};
 use crate::states::{self, Operation};
-use crate::{plain, proved};
+use crate::{plain, proved, windows};
+use reference::journal::Own;
 use reference::record::Call;
+use reference::windows::Request;
 use reference::{basin, book, fast, register};
 use std::hint::black_box;
 
@@ -15,13 +17,16 @@ pub enum Contestant {
     Fast,
     /// The fast model without the test for refusal 0 at every call.
     Untested,
+    /// Each window from all of its years.
+    Afresh,
 }
 
-pub const CONTESTANTS: [Contestant; 4] = [
+pub const CONTESTANTS: [Contestant; 5] = [
     Contestant::Proved,
     Contestant::Plain,
     Contestant::Fast,
     Contestant::Untested,
+    Contestant::Afresh,
 ];
 
 impl Contestant {
@@ -31,12 +36,13 @@ impl Contestant {
             Contestant::Plain => "plain",
             Contestant::Fast => "fast",
             Contestant::Untested => "untested",
+            Contestant::Afresh => "afresh",
         }
     }
 }
 
-/// What is done with the book of a row. One operation is one opening, one call, the figures once, or one
-/// operation on a planning state.
+/// What is done with the book of a row. One operation is one opening, one call, the figures once, one
+/// operation on a planning state, or the reply to one moving window.
 pub enum Work {
     /// Opens the book.
     Open,
@@ -53,6 +59,8 @@ pub enum Work {
     /// Opens the book, runs its calls, keeps the balance under four names, then does one operation on
     /// the state again and again.
     States(Operation),
+    /// Replies to a moving window again and again. The row has the record that asks for it in place of a book.
+    Windows(Request),
 }
 
 /// One row of the tables.
@@ -132,12 +140,29 @@ impl Row {
         }
     }
 
-    /// Who is timed: the model without the test only where calls are made.
-    pub fn contestants(&self) -> &'static [Contestant] {
-        match self.work {
-            Work::Calls { .. } => &CONTESTANTS,
-            Work::Open | Work::Figures | Work::States(_) => &CONTESTANTS[..3],
+    fn windows(name: &str, width: u8) -> Row {
+        let request = windows::longest(width);
+        let (years, areas) = (request.years.len(), request.areas.len());
+        let count = years + 1 - usize::from(width);
+        Row {
+            name: name.to_string(),
+            meaning: format!("{count} windows of {width} of {years} years, {areas} soil records"),
+            book: Own::Windows(request.clone()).bytes(),
+            work: Work::Windows(request),
+            most: 100,
+            counted: (4, 12),
         }
+    }
+
+    /// Who is timed: the model without the test only where calls are made, and each window afresh where
+    /// there are any.
+    pub fn contestants(&self) -> Vec<Contestant> {
+        let fourth = match self.work {
+            Work::Calls { .. } => Some(Contestant::Untested),
+            Work::Windows(_) => Some(Contestant::Afresh),
+            Work::Open | Work::Figures | Work::States(_) => None,
+        };
+        CONTESTANTS[..3].iter().copied().chain(fourth).collect()
     }
 
     /// Does so many operations, and returns a number that depends on them.
@@ -148,6 +173,7 @@ impl Row {
             Work::Calls { lengths, .. } => run(who, &book[..lengths[times]]),
             Work::Figures => refigure(who, book, times as u64),
             Work::States(operation) => restate(who, *operation, book, times as u64),
+            Work::Windows(request) => rewatch(who, book, request, times as u64),
         }
     }
 }
@@ -156,7 +182,7 @@ fn open(who: Contestant, book: &[u8]) -> u64 {
     match who {
         Contestant::Proved => proved::open(book),
         Contestant::Plain => black_box(book::open(book)).is_ok().into(),
-        Contestant::Fast | Contestant::Untested => black_box(fast::open(book)).is_ok().into(),
+        _ => black_box(fast::open(book)).is_ok().into(),
     }
 }
 
@@ -164,8 +190,8 @@ fn run(who: Contestant, book: &[u8]) -> u64 {
     match who {
         Contestant::Proved => proved::run(book),
         Contestant::Plain => run_plain(book).titles.len() as u64,
-        Contestant::Fast => run_fast(book).title_count as u64,
         Contestant::Untested => run_by(fast::apply_untested, book).title_count as u64,
+        _ => run_fast(book).title_count as u64,
     }
 }
 
@@ -192,7 +218,7 @@ fn refigure(who: Contestant, book: &[u8], times: u64) -> u64 {
     match who {
         Contestant::Proved => proved::refigure(book, times),
         Contestant::Plain => refigure_plain(&run_plain(book), times),
-        Contestant::Fast | Contestant::Untested => refigure_fast(&run_fast(book), times),
+        _ => refigure_fast(&run_fast(book), times),
     }
 }
 
@@ -227,7 +253,16 @@ fn restate(who: Contestant, operation: Operation, book: &[u8], times: u64) -> u6
     match who {
         Contestant::Proved => states::proved(operation, book, times),
         Contestant::Plain => states::plain(operation, book, times),
-        Contestant::Fast | Contestant::Untested => states::fast(operation, book, times),
+        _ => states::fast(operation, book, times),
+    }
+}
+
+fn rewatch(who: Contestant, record: &[u8], request: &Request, times: u64) -> u64 {
+    match who {
+        Contestant::Proved => windows::proved(record, times),
+        Contestant::Plain => windows::plain(request, times),
+        Contestant::Afresh => windows::afresh(request, times),
+        _ => windows::fast(request, times),
     }
 }
 
@@ -533,6 +568,16 @@ fn of_operation(
     vec![of(16), of(255)]
 }
 
+/// (e) Moving windows in the longest record of rain years, of the most years and of the fewest.
+pub fn moving_windows() -> Vec<Planned> {
+    let of = |width: u8| {
+        planned(&format!("windows-{width}-years"), move |name| {
+            Row::windows(name, width)
+        })
+    };
+    vec![of(50), of(20)]
+}
+
 /// The numbers of units and of titles at which growth is shown.
 pub const UNIT_COUNTS: [usize; 4] = [8, 16, 32, 64];
 pub const TITLE_COUNTS: [usize; 3] = [16, 64, 256];
@@ -575,6 +620,7 @@ pub fn tables() -> Vec<(&'static str, Vec<Planned>)> {
         ("Calls", calls()),
         ("Figures", figures()),
         ("States", planning_states()),
+        ("Windows", moving_windows()),
         ("Growth of calls", growing_calls()),
         ("Growth of figures", growing_figures()),
     ]

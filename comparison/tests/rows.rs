@@ -1,9 +1,10 @@
 //! The books for timing do what their rows say.
 
+use comparison::programs::Program;
 use comparison::rows::{self, Row, Work, CONTESTANTS};
-use comparison::{plain, states};
+use comparison::{journals, plain, proved, states, windows};
 use reference::register::{in_force, Title};
-use reference::LONGEST_BOOK;
+use reference::{fast, LONGEST_BOOK};
 
 fn all() -> Vec<Row> {
     rows::tables()
@@ -20,6 +21,9 @@ fn printed(book: &[u8]) -> String {
 #[test]
 fn every_description_is_accepted_and_no_book_is_too_long() {
     for row in all() {
+        if matches!(row.work, Work::Windows(_)) {
+            continue;
+        }
         assert!(row.book.len() <= LONGEST_BOOK, "{}", row.name);
         assert!(reference::book::open(&row.book).is_ok(), "{}", row.name);
     }
@@ -112,6 +116,40 @@ fn every_operation_on_a_state_is_done() {
             assert_eq!(states::fast(operation, &book, 9), 9, "{operation:?}");
         }
     }
+}
+
+#[test]
+fn every_way_gives_the_same_windows() {
+    for (planned, count) in rows::moving_windows().iter().zip([151, 181]) {
+        let row = (planned.make)();
+        let Work::Windows(request) = &row.work else {
+            panic!("{}", row.name);
+        };
+        let reply = reference::windows::reply(request);
+        assert_eq!((reply.refused, reply.windows), (None, count));
+        assert_eq!(windows::fast_reply(request), reply);
+        assert_eq!(windows::afresh_reply(request), reply);
+        let width = usize::from(request.width);
+        let anew = fast::windows_anew(width, &request.areas, &request.years);
+        assert_eq!(anew, reply);
+        let journal = [journals::sample(), row.book].concat();
+        let printed = Program::built("journal").printed(&journal);
+        let printed = printed.expect("the program is built");
+        assert_eq!(printed, reference::journal::run(&journal));
+    }
+}
+
+#[test]
+fn only_a_whole_moving_window_is_given_windows() {
+    for planned in rows::moving_windows() {
+        let record = (planned.make)().book;
+        assert!(proved::rewatch(&record, 3) > 0);
+        assert_eq!(proved::rewatch(&record, 0), 0);
+        assert_eq!(proved::rewatch(&record[..record.len() - 1], 3), 0);
+        assert_eq!(proved::rewatch(&record[1..], 3), 0);
+    }
+    assert_eq!(proved::rewatch(b"CA\0\0", 3), 0);
+    assert_eq!(proved::rewatch(b"", 3), 0);
 }
 
 #[test]

@@ -2,9 +2,9 @@
 //!
 //!     bench [REPETITIONS]          all tables, in Markdown
 //!     bench --rows                 the rows: table, name, two numbers of operations, meaning
-//!     bench --only ROW WHO TIMES   one row by one contestant (proved, plain, fast or untested), once
+//!     bench --only ROW WHO TIMES   one row by one contestant (proved, plain, fast, untested or afresh), once
 
-use comparison::rows::{self, Contestant, Row, CONTESTANTS};
+use comparison::rows::{self, Contestant, Row, Work, CONTESTANTS};
 use comparison::times::{machine, Times};
 use std::hint::black_box;
 use std::process::ExitCode;
@@ -102,7 +102,7 @@ fn print_tables(repetitions: usize) -> ExitCode {
     println!("Microseconds for one operation: median (lower quartile–upper quartile).");
     for (title, table) in rows::tables() {
         println!("\n### {title}\n");
-        print_head(title.ends_with("alls"));
+        print_head(title);
         let mut medians = Vec::new();
         for planned in table {
             let row = (planned.make)();
@@ -143,11 +143,14 @@ fn print_step(step: &str, linear: usize, from: [f64; 3], to: [f64; 3]) {
     println!("| {step} | {linear} | {proved:.2} | {plain:.2} | {fast:.2} |");
 }
 
-/// The head of a table; where calls are made it has a column for the model without the test.
-fn print_head(calls: bool) {
-    let (more, line) = match calls {
-        true => (" untested | proved / untested |", "---:|---:|"),
-        false => ("", ""),
+/// The head of a table; where calls are made it has a column for the model without the test, and of windows one for
+/// each of them afresh.
+fn print_head(title: &str) {
+    let line = "---:|---:|";
+    let (more, line) = match title {
+        "Windows" => (" afresh | afresh / proved |", line),
+        _ if title.ends_with("alls") => (" untested | proved / untested |", line),
+        _ => ("", ""),
     };
     println!("| Row | Meaning | proved | plain | fast | proved per second | proved / plain | proved / fast |{more}");
     println!("|---|---|---:|---:|---:|---:|---:|---:|{line}");
@@ -166,9 +169,12 @@ fn print_row(row: &Row, times: &[Times]) {
         proved.median() / plain.median(),
         proved.median() / fast.median()
     );
-    if let Some(untested) = times.get(3) {
-        let ratio = proved.median() / untested.median();
-        print!(" {} | {ratio:.2} |", untested.shown());
+    if let Some(fourth) = times.get(3) {
+        let ratio = match row.work {
+            Work::Windows(_) => fourth.median() / proved.median(),
+            _ => proved.median() / fourth.median(),
+        };
+        print!(" {} | {ratio:.2} |", fourth.shown());
     }
     println!();
 }

@@ -1,5 +1,5 @@
 -- The state of a book in which four balances are kept, and how many of many calls on it are counted: all of them, since that state is sound and
--- has the four names. Assumes nothing.
+-- has the four names. How many windows a record is given. Assumes nothing.
 use Rattle.std.specs.Prelude.{◌≡◌, ℕ, zero, suc, ◌+◌, ◌-◌, ◌%◌, ◌^◌, ◌<◌, ◌≤◌, List, [], ◌∷◌, set, replicate, Ok, Err}
 use Rattle.std.specs.Borrow.{MutBor}
 use Rattle.model.specs.Answers.{Answer}
@@ -10,6 +10,8 @@ use Rattle.planning.specs.declared.Name.{Name}
 use Rattle.planning.specs.declared.State.{State}
 use Rattle.planning.specs.Names.{name_length}
 use Rattle.planning.specs.Calls.{with_current, keep_reply, back_reply, opened_state}
+use Rattle.requests.specs.Watched.{watched_reply}
+use Rattle.requests.specs.Requests.{Request, ask, keep, back, watch, Asking, ends, fails, asks}
 use Rattle.replay.specs.Page.{record_reply}
 
 -- The names in turn: 1, 2, 3 and 4 in the first byte, and 0 in the others.
@@ -74,3 +76,15 @@ counted f (suc times) i s = (f s i).counts + counted f times (i + 1) (f s i).nex
 -- The state of a book after its calls with that balance kept under the four names.
 abbrev pub filled : List ℕ → State
 filled book = states keep_turn 4 0 (after_calls book)
+
+-- How many windows a request is given, and what is asked at an offset: only a moving window is given any.
+abbrev pub windows_for : Request → ℕ
+windows_for (ask c) = 0
+windows_for (keep n) = 0
+windows_for (back n) = 0
+windows_for (watch w) = (watched_reply w).count
+
+abbrev pub windows_given : Asking → ℕ
+windows_given ends = 0
+windows_given (fails r) = 0
+windows_given (asks r to) = windows_for r

@@ -1,15 +1,18 @@
 // For timing: keeping, going back, an ordinary call and a journal's record, many times over, on the state of a book in which four balances are
-// kept. The crate `planning_times_c` exports these functions to C.
+// kept, and the reply to a moving window, many times over. The crate `planning_times_c` exports these functions to C.
 #![tactic(auto)]
 
-ghost use Rattle.std.specs.Prelude.{◌≡◌, ℕ};
+ghost use Rattle.std.specs.Prelude.{◌≡◌, ◌*◌, ℕ};
 ghost use Rattle.planning.specs.declared.State.{State};
+ghost use Rattle.requests.specs.Requests.{request_at};
 ghost use Rattle.planning_times.specs.Timed.{Turn};
 ghost use Rattle.planning_times.specs.Timed as timed;
 
 use model::{Answer, Call};
 use planning::{Name, State};
 use report::ROOM;
+use requests::RecordAt;
+use window::Windows;
 
 // The name that is in turn: 1, 2, 3 or 4 in its first byte, and 0 in the others. The cast is proved to fit: `try_from` would add a branch that
 // never runs.
@@ -140,4 +143,32 @@ pub fn hasheqro_rerecord(book: &[u8], times: u64) -> u64
         counts += record_once(&mut s, &mut out);
     }
     counts
+}
+
+// How many windows the record at the start of some bytes is given: only a WI is given any. Their runoffs are put where they are lent, by a call that
+// is not in line, so that each repetition works them out.
+#[inline(never)]
+fn watch_once(bytes: &[u8], runoffs: &mut [u32; Windows::PLACES]) -> u64
+    ensures { result ≡ timed.windows_given (request_at bytes.now 0) }
+{
+    let RecordAt::Watches { .. } = requests::record_at(bytes, 0) else {
+        return 0;
+    };
+    let reply = requests::windows_at(bytes, 0);
+    let worked_out = reply.runoffs;
+    *runoffs = worked_out;
+    reply.count as u64
+}
+
+// How many windows so many repetitions of the WI at the start of some bytes are given in all. The number of repetitions has 32 bits, so that the
+// windows can be counted in 64.
+pub fn hasheqro_rewatch(bytes: &[u8], times: u32) -> u64
+    ensures { result ≡ times * timed.windows_given (request_at bytes.now 0) }
+{
+    let mut runoffs = [0; Windows::PLACES];
+    let mut windows = 0;
+    for _ in 0..times {
+        windows += watch_once(bytes, &mut runoffs);
+    }
+    windows
 }

@@ -2,7 +2,8 @@
 // stands in both.
 #![tactic(auto)]
 
-ghost use Rattle.std.specs.Prelude.{◌≡◌};
+ghost use Rattle.std.specs.Prelude.{◌≡◌, ◌*◌};
+ghost use Rattle.requests.specs.Requests.{request_at};
 ghost use Rattle.planning_times.specs.Timed as timed;
 
 // How many of so many keepings under the names in turn are accepted.
@@ -35,4 +36,12 @@ pub extern "C" fn hasheqro_rerecord(book: &[u8], times: u64) -> u64
     ensures { result ≡ timed.counted timed.record_turn times 0 (timed.filled book.now) }
 {
     planning_times::hasheqro_rerecord(book, times)
+}
+
+// How many windows so many repetitions of the WI at the start of some bytes are given in all.
+#[unsafe(no_mangle)]
+pub extern "C" fn hasheqro_rewatch(bytes: &[u8], times: u32) -> u64
+    ensures { result ≡ times * timed.windows_given (request_at bytes.now 0) }
+{
+    planning_times::hasheqro_rewatch(bytes, times)
 }

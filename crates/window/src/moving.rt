@@ -4,7 +4,7 @@ ghost use Rattle.window.specs.Moving as moving;
 ghost use Rattle.window.specs.Moving.{Movable, Yielding};
 
 use crate::Windows;
-use runoff::{Soils, Years};
+use runoff::Soils;
 
 // The sum of rain years, in 6,000,000,000ths.
 fn sum_of(soils: Soils, tenths: &[u16]) -> u64
@@ -19,18 +19,15 @@ fn sum_of(soils: Soils, tenths: &[u16]) -> u64
     sum
 }
 
-// The mean of so many rain years with this sum.
+// The mean of so many rain years with this sum. It is divided by the parts and then by the years, which takes less time than one division by both:
+// the first is by a constant, and what it leaves has 32 bits.
 fn mean(width: usize, sum: u64) -> u32
     requires years { (0 < width) × (width ≤ 50) }
     requires within { sum ≤ 60000000000000000 * width }
     ensures { result ≡ moving.mean_of width sum }
 {
-    let years = Years {
-        gauged: false,
-        count: width as u64,
-        sum: sum.cast_signed(),
-    };
-    years.natural_runoff() as u32
+    let years = (2 * sum + 6000000000 * width as u64) / 12000000000;
+    years as u32 / width as u32
 }
 
 // The sum of the next window: the one before with the year that enters in place of the year that leaves.
