@@ -4,9 +4,7 @@ use Rattle.std.proofs.lemmas.List.{get_or-take, length-take-le}
 use Rattle.listing.specs.Listing.{lines_of}
 use Rattle.listing.proofs.Rows.{lines_same}
 use Rattle.model.specs.Answers.{Answer}
-use Rattle.report.specs.Calls.{outcome_line}
-use Rattle.report.specs.declared.Outcome.TheVariants.{Windows as windows}
-use Rattle.listing.specs.Outcomes.{answered}
+use Rattle.report.specs.Calls.{count_line}
 use Rattle.runoff.specs.declared.Plot.{Plot}
 use Rattle.window.specs.Refused.{windows_refusal}
 use Rattle.window.specs.Window.{replied, windows_reply}
@@ -14,7 +12,7 @@ use Rattle.window.proofs.Accepted.{accepted_handed}
 use Rattle.planning.specs.declared.State.{State}
 use Rattle.requests.specs.Watched.{Watched, watched_reply}
 use Rattle.requests.specs.Requests.{watch}
-use Rattle.replies.specs.Reply.{windows_line, window_text, windows_text, reply_text}
+use Rattle.replies.specs.Reply.{windows_line, count_by, window_text, windows_text, reply_text}
 
 -- The lines of as many places as there are windows.
 abbrev pub lines_in : List ℕ → ℕ → List ℕ
@@ -26,7 +24,7 @@ lines_taken n runoffs h =
     ∙ lines_same n _ _ (λ k g. ap (λ (r : ℕ). window_text r k) (get_or-take n runoffs k 0 g))
 
 -- The line of a moving window is that of what it came to.
-pub told_line : (k : ℕ) (a : Answer) (count : ℕ) → outcome_line k (answered a (windows count)) ≡ windows_line k a count
+pub told_line : (k : ℕ) (a : Answer) (count : ℕ) → count_line k (count_by a count) ≡ windows_line k a count
 told_line k (Ok u) count = refl
 told_line k (Err r) count = refl
 

@@ -1,5 +1,5 @@
 -- What is printed for each request of a journal. Assumes nothing.
-use Rattle.std.specs.Prelude.{ℕ, suc, List, ◌++◌, get_or, Ok, Err}
+use Rattle.std.specs.Prelude.{ℕ, suc, List, ◌++◌, get_or, Result, Ok, Err}
 use Rattle.model.specs.Answers.{Answer, number}
 use Rattle.window.specs.declared.Windows.{Windows}
 use Rattle.window.specs.Window.{replied}
@@ -24,6 +24,11 @@ back_text k (Err r) = call_refused k (number r)
 abbrev pub windows_line : ℕ → Answer → ℕ → List ℕ
 windows_line k (Ok u) count = call_windows k count
 windows_line k (Err r) count = call_refused k (number r)
+
+-- How many windows a line tells, or the number of the refusal.
+abbrev pub count_by : Answer → ℕ → Result ℕ ℕ
+count_by (Ok u) count = Ok count
+count_by (Err r) count = Err (number r)
 
 -- A window's line: its number, from 1, and its natural runoff.
 abbrev pub window_text : ℕ → ℕ → List ℕ

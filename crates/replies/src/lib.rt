@@ -1,13 +1,13 @@
 // What is printed for a request of a journal whose reply has more than one line.
 #![tactic(auto)]
 
-ghost use Rattle.std.specs.Prelude.{◌≤◌, ◌+◌, ◌*◌, length, get_or};
+ghost use Rattle.std.specs.Prelude.{◌≡◌, ◌≤◌, ◌+◌, ◌*◌, length, get_or};
 ghost use Rattle.text.specs.Page.{Fits, Puts};
 ghost use Rattle.listing.specs.Listing.{lines_of};
 ghost use Rattle.requests.specs.Watched.{window_size, watched_at, watched_reply};
 ghost use Rattle.replies.specs.Reply as replies;
 
-use report::{CallLine, Outcome, WindowLine};
+use report::{WindowLine, WindowsLine};
 use text::Page;
 use window::Windows;
 
@@ -25,14 +25,24 @@ fn window_lines(page: &mut Page, runoffs: &[u32])
     }
 }
 
+// How many windows there are, or the number of the refusal.
+fn count(windows: &Windows) -> Result<u64, u64>
+    ensures { result ≡ replies.count_by windows.now.answer windows.now.count }
+{
+    match windows.answer {
+        Ok(()) => Ok(windows.count as u64),
+        Err(refusal) => Err(u64::from(refusal.number())),
+    }
+}
+
 // The lines of a moving window at place k among the records: its own, and then one for each window.
 fn windows(page: &mut Page, k: u64, windows: &Windows)
     requires { (windows.now.count ≤ 181) × Fits 16384 page.old }
     ensures { Puts 16384 page.old (replies.windows_text k windows.now) page.new }
 {
-    CallLine {
+    WindowsLine {
         call: k,
-        outcome: listing::answered(windows.answer, Outcome::Windows(windows.count as u64)),
+        count: count(windows),
     }
     .put(page);
     window_lines(page, &windows.runoffs[..windows.count]);

@@ -7,7 +7,7 @@ ghost use Rattle.text.specs.Page.{Fits, Puts};
 ghost use Rattle.text.specs.Text.{ascii};
 ghost use Rattle.report.specs.Lines.{line, unit_line, aquifer_line, refused_line, window_line};
 ghost use Rattle.report.specs.Parts.{part_text, part_room, line_room};
-ghost use Rattle.report.specs.Calls.{outcome_line};
+ghost use Rattle.report.specs.Calls.{outcome_line, count_line};
 
 use text::Page;
 
@@ -137,7 +137,7 @@ impl RefusedLine {
     }
 }
 
-// What a request came to: a title given or cancelled, by its number, a refusal, by its number, a balance kept or gone back to, or so many windows.
+// What a call, a keeping or a return came to: a title given or cancelled, by its number, a refusal, by its number, or a balance kept or gone back to.
 #[derive(Clone, Copy)]
 pub enum Outcome {
     Given(u64),
@@ -145,7 +145,6 @@ pub enum Outcome {
     Cancelled(u64),
     Kept,
     Back,
-    Windows(u64),
 }
 
 // `call K O`: the call's place among the calls, and its outcome.
@@ -156,7 +155,7 @@ pub struct CallLine {
 }
 
 impl CallLine {
-    #[tactic(auto, unfolding(crate::specs::Lines::call_given, crate::specs::Lines::call_refused, crate::specs::Lines::call_cancelled, crate::specs::Lines::call_kept, crate::specs::Lines::call_back, crate::specs::Lines::call_windows))]
+    #[tactic(auto, unfolding(crate::specs::Lines::call_given, crate::specs::Lines::call_refused, crate::specs::Lines::call_cancelled, crate::specs::Lines::call_kept, crate::specs::Lines::call_back))]
     pub fn put(self, page: &mut Page)
         requires { Fits 64 page.old }
         ensures { Puts 64 page.old (outcome_line self.call self.outcome) page.new }
@@ -180,10 +179,35 @@ impl CallLine {
             ),
             Outcome::Kept => line(page, b"call", &[call, Part::Word(b"kept")]),
             Outcome::Back => line(page, b"call", &[call, Part::Word(b"back")]),
-            Outcome::Windows(count) => line(
+        }
+    }
+}
+
+// `call K windows C`, or `call K refused N`: the call's place among the calls, and how many windows there are, or the refusal's number. It is no
+// outcome of `CallLine`, so that the loop over calls has all of that in line.
+#[derive(Clone, Copy)]
+pub struct WindowsLine {
+    pub call: u64,
+    pub count: Result<u64, u64>,
+}
+
+impl WindowsLine {
+    #[tactic(auto, unfolding(crate::specs::Lines::call_windows, crate::specs::Lines::call_refused))]
+    pub fn put(self, page: &mut Page)
+        requires { Fits 64 page.old }
+        ensures { Puts 64 page.old (count_line self.call self.count) page.new }
+    {
+        let call = Part::Number(self.call);
+        match self.count {
+            Ok(count) => line(
                 page,
                 b"call",
                 &[call, Part::Word(b"windows"), Part::Number(count)],
+            ),
+            Err(refusal) => line(
+                page,
+                b"call",
+                &[call, Part::Word(b"refused"), Part::Number(refusal)],
             ),
         }
     }
