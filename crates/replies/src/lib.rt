@@ -12,6 +12,7 @@ use text::Page;
 use window::Windows;
 
 // The lines of windows, the first from the oldest years. It is a loop beside that over a table's rows, whose trait is its crate's own.
+#[inline(always)]
 fn window_lines(page: &mut Page, runoffs: &[u32])
     requires { (length runoffs.now ≤ 181) × Fits (64 * length runoffs.now) page.old }
     ensures { Puts (64 * length runoffs.now) page.old (lines_of (length runoffs.now) (λ k. replies.window_text (get_or runoffs.now k 0) k)) page.new }
@@ -36,6 +37,7 @@ fn count(windows: &Windows) -> Result<u64, u64>
 }
 
 // The lines of a moving window at place k among the records: its own, and then one for each window.
+#[inline(always)]
 fn windows(page: &mut Page, k: u64, windows: &Windows)
     requires { (windows.now.count ≤ 181) × Fits 16384 page.old }
     ensures { Puts 16384 page.old (replies.windows_text k windows.now) page.new }
@@ -48,8 +50,9 @@ fn windows(page: &mut Page, k: u64, windows: &Windows)
     window_lines(page, &windows.runoffs[..windows.count]);
 }
 
-// The lines of the WI at an offset, at place k among the records. Not in line, since its arrays would stand beside what each call needs.
-#[inline(never)]
+// The lines of the WI at an offset, at place k among the records. All in line but the reply itself, so that a loop over records keeps its page in
+// registers.
+#[inline(always)]
 pub fn watched(page: &mut Page, s: &[u8], at: usize, k: u64)
     requires { (at + window_size s.now at ≤ length s.now) × Fits 16384 page.old }
     ensures { Puts 16384 page.old (replies.windows_text k (watched_reply (watched_at s.now at))) page.new }

@@ -192,6 +192,7 @@ pub struct WindowsLine {
 }
 
 impl WindowsLine {
+    #[inline(always)]
     #[tactic(auto, unfolding(crate::specs::Lines::call_windows, crate::specs::Lines::call_refused))]
     pub fn put(self, page: &mut Page)
         requires { Fits 64 page.old }
@@ -221,6 +222,7 @@ pub struct WindowLine {
 }
 
 impl WindowLine {
+    #[inline(always)]
     #[tactic(auto, unfolding(crate::specs::Lines::window_line))]
     pub fn put(self, page: &mut Page)
         requires { Fits 64 page.old }

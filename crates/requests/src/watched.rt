@@ -59,7 +59,8 @@ fn first_years(s: &[u8], i: usize, n: usize) -> [u16; YEARS]
     years
 }
 
-// The reply to the WI at an offset.
+// The reply to the WI at an offset. Not in line, since its arrays would stand beside what each call needs.
+#[inline(never)]
 pub fn windows_at(s: &[u8], at: usize) -> Windows
     requires { at + watched.window_size s.now at ≤ length s.now }
     ensures { result ≡ watched.watched_reply (watched.watched_at s.now at) }
