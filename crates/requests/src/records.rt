@@ -73,7 +73,7 @@ fn own_record(s: &[u8], at: usize, refusal: Refusal) -> RecordAt
 }
 
 // What stands at an offset after the description. Inlined into the loop over records, which is not its only caller.
-#[inline(always)]
+#[inline]
 #[tactic(auto, unfolding(crate::specs::Records::record_at))]
 pub fn record_at(s: &[u8], at: usize) -> RecordAt
     ensures { result ≡ records.record_at s.now at }
