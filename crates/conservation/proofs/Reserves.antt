@@ -48,7 +48,7 @@ module _ (v : View) (r : Ready v) where
       (λ e. rw (ne_eqb (downstream v k) (suc w) e)))
 
   own_committed : (w : ℕ) → w < v.units
-      → arriving naturals (downstream v) (committed v) w w + own_reserve v w ≡ (v.unit w).extraction + (v.unit w).exports + committed v w
+      → arriving naturals (downstream v) (committed v) w w + own_reserve v w ≡ demand (v.unit w) (committed v w)
   own_committed w h = omega (arith, shares_committed w h, shares_add_up v w (demand (v.unit w) (committed v w)))
 
   outlets_committed : sum_of naturals v.units (λ j. only naturals (eqb (downstream v j) 0) (committed v j))
@@ -60,10 +60,11 @@ module _ (v : View) (r : Ready v) where
       (λ e. ap (only naturals (eqb (downstream v j) 0)) (committed_outlet v j e))
       (λ e. rw (ne_eqb (downstream v j) 0 e)))
 
--- All own reserves together are the extractions, the exports and the commitments of the outlets.
+-- All own reserves together are the extractions, the exports, the evaporation and the commitments of the outlets.
 pub reserves_add_up : (v : View) → Ready v
     → sum_of naturals v.units (λ j. own_reserve v j)
     ≡ sum_of naturals v.units (λ j. (v.unit j).extraction) + sum_of naturals v.units (λ j. (v.unit j).exports)
+    + sum_of naturals v.units (λ j. (v.unit j).evaporation)
     + sum_of naturals v.units (λ j. only naturals (eqb (downstream v j) 0) (v.unit j).commitment)
 reserves_add_up v r =
     let n = v.units in
@@ -71,7 +72,8 @@ reserves_add_up v r =
       arith,
       sum_plus n (λ w. arriving naturals (downstream v) (committed v) w w) (λ w. own_reserve v w),
       sum_same naturals n _ _ (own_committed v r),
-      sum_plus n (λ w. (v.unit w).extraction + (v.unit w).exports) (λ w. committed v w),
+      sum_plus n (λ w. (v.unit w).extraction + (v.unit w).exports + (v.unit w).evaporation) (λ w. committed v w),
+      sum_plus n (λ w. (v.unit w).extraction + (v.unit w).exports) (λ w. (v.unit w).evaporation),
       sum_plus n (λ w. (v.unit w).extraction) (λ w. (v.unit w).exports),
       arrive_or_pass (downstream v) (committed v) n (tree v r),
       outlets_pass v r (committed v),

@@ -236,11 +236,12 @@ pub record Demand3 (d : Description) (t : Tally) (f : Figures) : Type 0 where
   pub all_wells :
       over_aquifers d (λ j. (aquifer_entries d t j).extraction)
       ≡ over_aquifers d (λ j. (base_aquifer d j).extraction) + over_titles t (λ e. taken_by e.title)
-  -- All the units' own reserves together equal those extractions and all exports in force plus the outlet commitments.
+  -- All the units' own reserves together equal those extractions, all exports in force and the evaporation plus the outlet commitments.
   pub reserves :
       over_units d (λ j. reserve_of f j)
       ≡ over_units d (λ j. (unit_entries d t j).extraction)
       + over_units d (λ j. (unit_entries d t j).exports)
+      + over_units d (λ j. (base_unit d j).evaporation)
       + over_units d (λ j. only naturals (eqb (base_unit d j).downstream 0) (base_unit d j).commitment)
   -- Each unit's flow lies within half a thousand m³, per unit at or above it, of the flow worked from unrounded natural runoff with the
   -- same other entries: both multiplied by M, twice their difference is at most M times the number of units at or above.

@@ -24,9 +24,9 @@ running_total v w j = arriving naturals (downstream v) (contribution v) j w
 abbrev pub total : View → ℕ → ℕ
 total v w = running_total v w w + inflow (v.unit w)
 
--- D, a unit's demand: extraction + exports + committed volume.
+-- D, a unit's demand: extraction + exports + evaporation + committed volume.
 abbrev pub demand : Unit → ℕ → ℕ
-demand u committed = u.extraction + u.exports + committed
+demand u committed = u.extraction + u.exports + u.evaporation + committed
 
 -- What a contributor gets: floor(D × C / T) − floor(D × B / T), C being the running total with it and B without it.
 abbrev pub share : ℕ → ℕ → ℕ → ℕ → ℕ

@@ -25,11 +25,14 @@ pub struct Split<'a> {
 impl Split<'_> {
     ghost use Rattle.river.specs.Split.{demand_of, total_of};
 
-    // The unit's demand: extraction, exports and committed volume.
+    // The unit's demand: extraction, exports, evaporation and committed volume.
     fn demand(&self) -> u64
         ensures { result ≡ demand_of self.now }
     {
-        u64::from(self.unit.extraction) + u64::from(self.unit.exports) + self.committed
+        u64::from(self.unit.extraction)
+            + u64::from(self.unit.exports)
+            + u64::from(self.unit.evaporation)
+            + self.committed
     }
 
     // The total of its contributors: what has arrived, and what the unit contributes to itself, its natural runoff, returns and imports.
