@@ -12,7 +12,7 @@ use Rattle.figures.specs.Figures.{unit_figures, no_unit_figures, figures_from, a
 use Rattle.model.specs.View.{View}
 use Rattle.river.specs.Flow.{flow, gathered, Ready}
 use Rattle.river.specs.Reserve.{running_total, committed, own_reserve}
-use Rattle.river.proofs.Units.{SameUnits, flow_same, committed_same, reserve_same, alone, flow_alone, committed_alone, reserve_alone}
+use Rattle.river.proofs.Units.{SameUnits, AlikeUnits, alike_of, flow_alike, committed_alike, reserve_alike, alone, flow_alone, committed_alone, reserve_alone}
 use Rattle.river.proofs.Flows.{flow_parts}
 
 -- The figures of a unit from what is gained and lost at it and above it are those that the definitions give.
@@ -37,20 +37,23 @@ pub figures_from_lem : (v : View) (j g l a c : ℕ) (x : UnitFigures)
 figures_from_lem v j g l a c x eg el ea ec e =
     e ∙ (λ i. figures_from (v.unit j) (eg i) (el i) (ea i) (ec i)) ∙ figures_are v j
 
--- The figures over views with the same units are the same.
-pub unit_figures_same : (v w : View) → SameUnits v w → Ready v → (j : ℕ) → j < v.units → unit_figures w j ≡ unit_figures v j
-unit_figures_same v w s r j h = λ i.
+-- The figures over views with alike units, and so over views with the same units, are the same.
+pub unit_figures_alike : (v w : View) → AlikeUnits v w → Ready v → (j : ℕ) → j < v.units → unit_figures w j ≡ unit_figures v j
+unit_figures_alike v w a r j h = λ i.
     record {
-      flow = flow_same v w s j h i;
-      committed = committed_same v w s r j h i;
-      reserve = reserve_same v w s r j h i;
-      availability = flow_same v w s j h i -ℤ pos (committed_same v w s r j h i);
+      flow = flow_alike v w a j h i;
+      committed = committed_alike v w a r j h i;
+      reserve = reserve_alike v w a r j h i;
+      availability = flow_alike v w a j h i -ℤ pos (committed_alike v w a r j h i);
     }
 
+pub figures_alike : (v w : View) → AlikeUnits v w → Ready v → all_unit_figures w ≡ all_unit_figures v
+figures_alike v w a r =
+    ap (λ (n : ℕ). table 64 no_unit_figures n (unit_figures w)) a.count
+    ∙ table_same 64 no_unit_figures v.units _ _ r.few (unit_figures_alike v w a r)
+
 pub figures_same : (v w : View) → SameUnits v w → Ready v → all_unit_figures w ≡ all_unit_figures v
-figures_same v w s r =
-    ap (λ (n : ℕ). table 64 no_unit_figures n (unit_figures w)) s.count
-    ∙ table_same 64 no_unit_figures v.units _ _ r.few (unit_figures_same v w s r)
+figures_same v w s = figures_alike v w (alike_of v w s)
 
 -- The figures over the units of a view alone are those over the view.
 pub unit_figures_alone : (v : View) (j : ℕ) → unit_figures (alone v) j ≡ unit_figures v j

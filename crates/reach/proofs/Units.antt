@@ -1,24 +1,20 @@
--- The ways down over views with the same units are the same; so are those over the units of a view alone. Assumes nothing.
+-- The ways down over views whose units drain alike are the same; so are those over the units of a view alone. Assumes nothing.
 use Prim.Native.Nat.{ℕ, zero, suc, pred, ◌<◌}
 use mathlib.Core.Path.{◌≡◌, refl, ap}
 use mathlib.Core.Bool.{Bool, false, cond, ◌||◌}
 use lib.Dec.{eqb}
 use Rattle.model.specs.View.{View}
-use Rattle.model.specs.declared.Unit.{Unit}
 use Rattle.river.specs.Flow.{downstream, Ready}
-use Rattle.river.proofs.Units.{SameUnits, alone}
+use Rattle.river.proofs.Units.{AlikeUnits, alone}
 use Rattle.reach.specs.Reach.{below_to, lies_below, outlet_to, outlet}
 use Rattle.reach.proofs.Ways.{outlet_same, below_same}
 
-module _ (v w : View) (s : SameUnits v w) (r : Ready v) where
-  same : (k : ℕ) → k < v.units → downstream w k ≡ downstream v k
-  same k h = ap (λ (u : Unit). u.downstream) (s.unit k h)
-
+module _ (v w : View) (s : AlikeUnits v w) (r : Ready v) where
   pub outlet_units : (j : ℕ) → j < v.units → outlet w j ≡ outlet v j
-  outlet_units j h = outlet_same v w r s.count same j h
+  outlet_units j h = outlet_same v w r s.count s.drains j h
 
   pub below_units : (u x : ℕ) → u < v.units → lies_below w u x ≡ lies_below v u x
-  below_units u x h = below_same v w r s.count same u x h
+  below_units u x h = below_same v w r s.count s.drains u x h
 
 to_alone : (v : View) (way j : ℕ) → outlet_to (alone v) way j ≡ outlet_to v way j
 unfolding outlet_to

@@ -25,10 +25,10 @@ use Rattle.model.proofs.Answers.{by_answer, pass}
 use Rattle.titles.specs.Posting.{Posting, nothing, post, postings}
 use Rattle.titles.specs.Adds.{return_of}
 use Rattle.river.specs.Flow.{Ready}
-use Rattle.river.proofs.Units.{SameUnits, counted_units}
+use Rattle.river.proofs.Units.{SameUnits, AlikeUnits, alike_of, counted_units}
 use Rattle.river.specs.Wells.{well_availability}
 use Rattle.figures.specs.Figures.{WellsReady, aquifers_of}
-use Rattle.figures.proofs.Units.{unit_figures_same}
+use Rattle.figures.proofs.Units.{unit_figures_alike}
 use Rattle.basin.specs.Sound.{exists}
 use Rattle.basin.proofs.Soundness.{number_exists}
 use Rattle.reach.specs.Reach.{same_basin}
@@ -97,6 +97,14 @@ overfills_same : (f g : ℕ → ℕ) (count : ℕ) (p : Posting) → There count
 overfills_same f g count nothing h e = refl
 overfills_same f g count (post n a) h e = ap (λ (x : ℕ). past (x + a)) (e (pred n) (omega (arith, h.0, h.1)))
 
+-- A basin is dry over views with alike units together.
+pub dry_alike : (v w : View) → AlikeUnits v w → Ready v → (j : ℕ) → j < v.units → dry w j ≡ dry v j
+dry_alike v w a r j h =
+    ap (λ (n : ℕ). not (every n (λ k. not (same_basin w j k && wanting w k)))) a.count
+    ∙ ap not
+    (every_same v.units _ _
+    (λ k g i. not (eqb (outlet_units v w a r k g i) (outlet_units v w a r j h i) && in_deficit (unit_figures_alike v w a r k g i))))
+
 module _ (v w : View) (s : SameEntries v w) where
   overfull_same : (t : Title) → Named v t → overfull w t ≡ overfull v t
   overfull_same t n =
@@ -123,17 +131,13 @@ module _ (v w : View) (s : SameEntries v w) where
 
   module _ (r : Ready v) where
     dry_same : (j : ℕ) → j < v.units → dry w j ≡ dry v j
-    dry_same j h =
-        ap (λ (n : ℕ). not (every n (λ k. not (same_basin w j k && wanting w k)))) s.units.count
-        ∙ ap not
-        (every_same v.units _ _
-        (λ k g i. not (eqb (outlet_units v w s.units r k g i) (outlet_units v w s.units r j h i) && in_deficit (unit_figures_same v w s.units r k g i))))
+    dry_same = dry_alike v w (alike_of v w s.units) r
 
     goes_down_same : (t : Title) → Named v t → goes_down w t ≡ goes_down v t
     goes_down_same (UnitWithdrawal u x y) n = refl
     goes_down_same (AquiferWithdrawal a x) n = refl
     goes_down_same (UnitTransfer g t x) n =
-        ap (λ (b : Bool). eqb g t || b) (below_units v w s.units r (pred g) (pred t) (omega (arith, n.exports.0, n.exports.1)))
+        ap (λ (b : Bool). eqb g t || b) (below_units v w (alike_of v w s.units) r (pred g) (pred t) (omega (arith, n.exports.0, n.exports.1)))
     goes_down_same (AquiferTransfer a u x) n = refl
     goes_down_same (ReturningWithdrawal a u x y) n = refl
 

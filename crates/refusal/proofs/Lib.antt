@@ -1,3 +1,4 @@
 pub mod Granting
 pub mod Giving
 pub mod Entries
+pub mod Reservoirs

@@ -1,3 +1,4 @@
 -- The grounds on which a grant is refused.
 pub mod Grant
 pub mod Steps
+pub mod Reservoirs

@@ -43,25 +43,81 @@ counted_units v us h e =
 pub ready_at : {us ws : List Unit} → us ≡ ws → Ready (units_of us) → Ready (units_of ws)
 ready_at e r = rw e at r
 
-module _ (v w : View) (s : SameUnits v w) where
-  downstream_same : (k : ℕ) → k < v.units → downstream w k ≡ downstream v k
-  downstream_same k h = ap (λ (u : Unit). u.downstream) (s.unit k h)
+-- Two views whose units drain alike, and add, contribute, demand and promise alike.
+pub record AlikeUnits (v w : View) : Type 0 where
+  pub count : w.units ≡ v.units
+  pub drains : (k : ℕ) → k < v.units → downstream w k ≡ downstream v k
+  pub adds : (k : ℕ) → k < v.units → net (w.unit k) ≡ net (v.unit k)
+  pub gives : (k : ℕ) → k < v.units → inflow (w.unit k) ≡ inflow (v.unit k)
+  pub asks : (k : ℕ) → k < v.units → (c : ℕ) → demand (w.unit k) c ≡ demand (v.unit k) c
+  pub promises : (k : ℕ) → k < v.units → (w.unit k).commitment ≡ (v.unit k).commitment
 
-  pub ready_same : Ready v → Ready w
-  ready_same r =
-      record {
-        few = omega (arith, s.count, r.few);
-        onward = λ k h. rw (downstream_same k (omega (arith, s.count))) (r.onward k (omega (arith, s.count)));
-        within = λ k h. rw (downstream_same k (omega (arith, s.count)), s.count) (r.within k (omega (arith, s.count)));
-        gains = λ k h. rw (s.unit k (omega (arith, s.count))) (r.gains k (omega (arith, s.count)));
-        losses = λ k h. rw (s.unit k (omega (arith, s.count))) (r.losses k (omega (arith, s.count)));
-        commitments = λ k h. rw (s.unit k (omega (arith, s.count))) (r.commitments k (omega (arith, s.count)));
-      }
+pub alike_of : (v w : View) → SameUnits v w → AlikeUnits v w
+alike_of v w s =
+    record {
+      count = s.count;
+      drains = λ k h. ap (λ (u : Unit). u.downstream) (s.unit k h);
+      adds = λ k h. ap net (s.unit k h);
+      gives = λ k h. ap inflow (s.unit k h);
+      asks = λ k h c. ap (λ (u : Unit). demand u c) (s.unit k h);
+      promises = λ k h. ap (λ (u : Unit). u.commitment) (s.unit k h);
+    }
 
-  pub flow_same : (j : ℕ) → j < v.units → flow w j ≡ flow v j
+-- The flows, committed volumes and own reserves over such views are the same.
+module _ (v w : View) (s : AlikeUnits v w) where
+  pub flow_alike : (j : ℕ) → j < v.units → flow w j ≡ flow v j
   unfolding flow
-  flow_same j h =
-      same_gather integers (downstream w) (downstream v) _ _ j (λ k g. downstream_same k (omega arith)) (λ k g. ap net (s.unit k (omega arith)))
+  flow_alike j h =
+      same_gather integers (downstream w) (downstream v) _ _ j (λ k g. s.drains k (omega arith)) (λ k g. s.adds k (omega arith))
+
+  running_alike : (k j : ℕ) → j ≤ v.units → running_total w k j ≡ running_total v k j
+  running_alike k j h =
+      sum_same naturals j _ _
+      (λ l g. ap (λ (d : ℕ). only naturals (eqb d (suc k)) (contribution w l)) (s.drains l (omega arith))
+      ∙ ap (λ (z : ℤ). only naturals (eqb (downstream v l) (suc k)) (above z)) (flow_alike l (omega arith)))
+
+  -- What a unit gets, of the demand of the unit below it and of its own.
+  above_alike : (k D j : ℕ) → k < v.units → j < v.units → share_above w k D j ≡ share_above v k D j
+  above_alike k D j h g = λ i.
+      cond (eqb (running_alike k k (omega arith) i + s.gives k h i) 0) 0
+      (share D (running_alike k k (omega arith) i + s.gives k h i) (running_alike k j (omega arith) i)
+      (running_alike k j (omega arith) i + above (flow_alike j g i)))
+
+  own_alike : (k D : ℕ) → k < v.units → share_own w k D ≡ share_own v k D
+  own_alike k D h = λ i.
+      cond (eqb (running_alike k k (omega arith) i + s.gives k h i) 0) D
+      (share D (running_alike k k (omega arith) i + s.gives k h i) (running_alike k k (omega arith) i)
+      (running_alike k k (omega arith) i + s.gives k h i))
+
+  to_alike : Ready v → (way j : ℕ) → j < v.units → committed_to w way j ≡ committed_to v way j
+  unfolding committed_to
+  to_alike r zero j h = s.promises j h
+  to_alike r (suc way) j h =
+      by_eq (downstream v j) 0
+      (λ e. to_outlet w (suc way) j (s.drains j h ∙ e) ∙ s.promises j h ∙ sym (to_outlet v (suc way) j e))
+      (λ e.
+      let k = pred (downstream v j) in
+      let b = below_of v r j h e in
+      to_next w way j (λ g. e (sym (s.drains j h) ∙ g))
+      ∙ ap (λ (d : ℕ). share_above w (pred d) (demand (w.unit (pred d)) (committed_to w way (pred d))) j) (s.drains j h)
+      ∙ ap (λ (d : ℕ). share_above w k d j) (s.asks k b.within (committed_to w way k))
+      ∙ ap (λ (c : ℕ). share_above w k (demand (v.unit k) c) j) (to_alike r way k b.within)
+      ∙ above_alike k (demand (v.unit k) (committed_to v way k)) j b.within h
+      ∙ sym (to_next v way j e))
+
+  pub committed_alike : Ready v → (j : ℕ) → j < v.units → committed w j ≡ committed v j
+  unfolding committed
+  committed_alike r j h = ap (λ (m : ℕ). committed_to w m j) s.count ∙ to_alike r v.units j h
+
+  pub reserve_alike : Ready v → (j : ℕ) → j < v.units → own_reserve w j ≡ own_reserve v j
+  reserve_alike r j h =
+      ap (share_own w j) (s.asks j h (committed w j))
+      ∙ ap (λ (c : ℕ). share_own w j (demand (v.unit j) c)) (committed_alike r j h)
+      ∙ own_alike j (demand (v.unit j) (committed v j)) h
+
+module _ (v w : View) (s : SameUnits v w) where
+  pub flow_same : (j : ℕ) → j < v.units → flow w j ≡ flow v j
+  flow_same = flow_alike v w (alike_of v w s)
 
   -- The lowest-numbered unit with a negative flow.
   pub negative_same : first w.units (λ j. not (non_neg (flow w j))) ≡ first v.units (λ j. not (non_neg (flow v j)))
@@ -69,53 +125,17 @@ module _ (v w : View) (s : SameUnits v w) where
       ap (λ (n : ℕ). first n (λ j. not (non_neg (flow w j)))) s.count
       ∙ first_same v.units _ _ (λ k h. ap (λ (z : ℤ). not (non_neg z)) (flow_same k h))
 
-  running_same : (k j : ℕ) → j ≤ v.units → running_total w k j ≡ running_total v k j
-  running_same k j h =
-      sum_same naturals j _ _
-      (λ l g. ap (λ (d : ℕ). only naturals (eqb d (suc k)) (contribution w l)) (downstream_same l (omega arith))
-      ∙ ap (λ (z : ℤ). only naturals (eqb (downstream v l) (suc k)) (above z)) (flow_same l (omega arith)))
-
-  -- What a unit gets, of the demand of the unit below it and of its own.
-  above_same : (k D j : ℕ) → k < v.units → j < v.units → share_above w k D j ≡ share_above v k D j
-  above_same k D j h g = λ i.
-      cond (eqb (running_same k k (omega arith) i + inflow (s.unit k h i)) 0) 0
-      (share D (running_same k k (omega arith) i + inflow (s.unit k h i)) (running_same k j (omega arith) i)
-      (running_same k j (omega arith) i + above (flow_same j g i)))
-
-  own_same : (k D : ℕ) → k < v.units → share_own w k D ≡ share_own v k D
-  own_same k D h = λ i.
-      cond (eqb (running_same k k (omega arith) i + inflow (s.unit k h i)) 0) D
-      (share D (running_same k k (omega arith) i + inflow (s.unit k h i)) (running_same k k (omega arith) i)
-      (running_same k k (omega arith) i + inflow (s.unit k h i)))
-
-  to_same : Ready v → (way j : ℕ) → j < v.units → committed_to w way j ≡ committed_to v way j
-  unfolding committed_to
-  to_same r zero j h = ap (λ (u : Unit). u.commitment) (s.unit j h)
-  to_same r (suc way) j h =
-      by_eq (downstream v j) 0
-      (λ e.
-      to_outlet w (suc way) j (downstream_same j h ∙ e)
-      ∙ ap (λ (u : Unit). u.commitment) (s.unit j h)
-      ∙ sym (to_outlet v (suc way) j e))
-      (λ e.
-      let k = pred (downstream v j) in
-      let b = below_of v r j h e in
-      to_next w way j (λ g. e (sym (downstream_same j h) ∙ g))
-      ∙ ap (λ (d : ℕ). share_above w (pred d) (demand (w.unit (pred d)) (committed_to w way (pred d))) j) (downstream_same j h)
-      ∙ ap (λ (u : Unit). share_above w k (demand u (committed_to w way k)) j) (s.unit k b.within)
-      ∙ ap (λ (c : ℕ). share_above w k (demand (v.unit k) c) j) (to_same r way k b.within)
-      ∙ above_same k (demand (v.unit k) (committed_to v way k)) j b.within h
-      ∙ sym (to_next v way j e))
-
-  pub committed_same : Ready v → (j : ℕ) → j < v.units → committed w j ≡ committed v j
-  unfolding committed
-  committed_same r j h = ap (λ (m : ℕ). committed_to w m j) s.count ∙ to_same r v.units j h
-
-  pub reserve_same : Ready v → (j : ℕ) → j < v.units → own_reserve w j ≡ own_reserve v j
-  reserve_same r j h =
-      ap (λ (u : Unit). share_own w j (demand u (committed w j))) (s.unit j h)
-      ∙ ap (λ (c : ℕ). share_own w j (demand (v.unit j) c)) (committed_same r j h)
-      ∙ own_same j (demand (v.unit j) (committed v j)) h
+  pub ready_same : Ready v → Ready w
+  ready_same r =
+      let a = alike_of v w s in
+      record {
+        few = omega (arith, s.count, r.few);
+        onward = λ k h. rw (a.drains k (omega (arith, s.count))) (r.onward k (omega (arith, s.count)));
+        within = λ k h. rw (a.drains k (omega (arith, s.count)), s.count) (r.within k (omega (arith, s.count)));
+        gains = λ k h. rw (s.unit k (omega (arith, s.count))) (r.gains k (omega (arith, s.count)));
+        losses = λ k h. rw (s.unit k (omega (arith, s.count))) (r.losses k (omega (arith, s.count)));
+        commitments = λ k h. rw (s.unit k (omega (arith, s.count))) (r.commitments k (omega (arith, s.count)));
+      }
 
 -- A view without its aquifers and titles.
 abbrev pub alone : View → View
