@@ -1,5 +1,5 @@
--- The cases of document 01 ("Cases for the proof table"), two of rain in tenths and two of well water that comes back as one group of
--- theorems of the definitions. Assumes nothing.
+-- The cases of document 01 ("Cases for the proof table"), two of rain in tenths, two of well water that comes back and two of reservoirs as
+-- one group of theorems of the definitions. Assumes nothing.
 use Rattle.std.specs.Prelude.{ℕ, ◌+◌, ◌-◌, ◌*◌, ◌/◌, ◌≡◌, refl, true, List, [], ◌∷◌, length, replicate, pos, Ok, Err}
 use Rattle.std.proofs.Common.{sym, ap, ◌∙◌}
 use Rattle.laws.specs.Sum.{sum_of}
@@ -35,11 +35,12 @@ use Rattle.register.specs.Reply.{grant_reply}
 use Rattle.register.specs.Calls.{after}
 use Rattle.text.specs.Text.{ascii}
 use Rattle.listing.specs.Listing.{printed}
-use Rattle.cases.specs.Printed.{millimetres, printed_description, printed_book, returning_book, released_book}
+use Rattle.cases.specs.Printed.{millimetres, printed_description, printed_book, returning_book, released_book, reservoir_book, dry_reservoir_book}
 use Rattle.cases.specs.OneUnit.{meadow, forest, half, under, tequisistlan, steady, uneven, mixed, both_marks, tequisistlan_years, gauges, rain_book, gauged_book, opens_one, opens_a, opens_b, opens_c, opens_d, opens_e, opens_mixed, opens_both, opens_tequisistlan, opens_gauged}
 use Rattle.cases.specs.Balances.{first_title, printed_balance, first_balance, printed_opens, printed_sound, first_sound, calls_are, downstream_reply, seven_title, eight_title, cancelled_balance, after_cancelled}
 use Rattle.cases.specs.Returning.{returning_opens, returning_asks}
 use Rattle.cases.specs.Lines.{after_first, printed_is, returning_printed, released_printed}
+use Rattle.cases.specs.Reservoirs.{reservoir_printed, dry_reservoir_printed}
 
 -- The rain of some years together, in tenths.
 abbrev pub rain_total : List Rain → ℕ
@@ -153,6 +154,12 @@ pub record CasesHold : Type 0 where
       printed released_book
       ≡ ascii
       "call 1 given 1\ncall 2 cancelled 1\nunit 1 10080 3063 3063 7017\nunit 2 1540 468 468 1072\nunit 3 10160 1000 469 9160\naquifer 1 2000 200\n"
+  -- A reservoir at the outlet falls by the 1000 that it evaporates; it has 1540 of its own, 1540 from unit 1 and commitment 1500. Its
+  -- demand of 2500 reaches unit 1: after 728, of which 145 return, 958 of its 957 would be committed; after 727, 958 of its 958 are.
+  pub reservoir :
+      printed reservoir_book ≡ ascii "call 1 refused 17\ncall 2 given 1\nunit 1 958 958 1685 0\nunit 2 2498 1500 1542 998\n"
+  -- One without any contributor, that falls by 100, of which 30 evaporate, with commitment 20: T is 0, and its own reserve is 50.
+  pub dry_reservoir : printed dry_reservoir_book ≡ ascii "unit 1 70 20 50 50\n"
 
 -- What the misreadings of (c), (d) and (e) would give.
 case_c_mean : rain_total uneven ≡ 20 * 8000
@@ -285,4 +292,6 @@ cases_hold =
       returning_calls_lem = ap (λ (o : Opened). calls_of returning_book o.place) returning_opens ∙ returning_asks;
       returning = returning_printed;
       returning_cancelled = released_printed;
+      reservoir = reservoir_printed;
+      dry_reservoir = dry_reservoir_printed;
     }

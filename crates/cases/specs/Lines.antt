@@ -23,16 +23,16 @@ use Rattle.cases.specs.Balances.{first_title, second_title, third_title, fourth_
 use Rattle.cases.specs.Returning.{town_title, more_title, use_title, returning_asked, released_asked, used_balance, released_balance, returning_opens, returning_asks, returning_ends, released_opens, released_asks, released_ends, town_reply, more_reply, use_reply, needed_reply, released_reply, used_sound, released_sound}
 
 -- Calls, the first of them at place k, that print a text over a balance and leave another.
-record Runs (k : ℕ) (b : Balance) (cs : List Call) (text : List ℕ) (new : Balance) : Type 0 where
-  lines : call_lines k b cs ≡ text
-  leave : after b cs ≡ new
+pub record Runs (k : ℕ) (b : Balance) (cs : List Call) (text : List ℕ) (new : Balance) : Type 0 where
+  pub lines : call_lines k b cs ≡ text
+  pub leave : after b cs ≡ new
 
-runs_none : {k : ℕ} {b : Balance} → Runs k b [] [] b
+pub runs_none : {k : ℕ} {b : Balance} → Runs k b [] [] b
 unfolding call_lines after
 runs_none = record { lines = refl; leave = refl }
 
 -- One call more, by its reply.
-runs_more : {k : ℕ} {b new : Balance} {cs : List Call} {r : Reply} {text : List ℕ} (c : Call) → call_reply b c ≡ r → Runs (suc k) r.balance cs text new
+pub runs_more : {k : ℕ} {b new : Balance} {cs : List Call} {r : Reply} {text : List ℕ} (c : Call) → call_reply b c ≡ r → Runs (suc k) r.balance cs text new
     → Runs k b (c ∷ cs) (call_text k c r.answer r.number ++ text) new
 unfolding call_lines after
 runs_more {k} {b} {new} {cs} {r} c e s =
@@ -47,14 +47,14 @@ runs_more {k} {b} {new} {cs} {r} c e s =
 pub after_first : after printed_balance (Grant first_title ∷ []) ≡ first_balance
 after_first = (runs_more {k = 1} (Grant first_title) first_reply runs_none).leave
 
--- What is printed for a book that opens the printed balance: the lines of its calls, then the table of the balance that they leave.
-book_printed : (s : List ℕ) (cs : List Call) (text : List ℕ) (new : Balance) → length s ≤ 65536
-    → opened s ≡ record { answer = Ok tt; place = 379; balance = printed_balance } → calls_of s 379 ≡ cs → ending_of s 379 ≡ Ok tt
-    → Runs 1 printed_balance cs text new → printed s ≡ text ++ table_text (view_of new)
-book_printed s cs text new h opens asks ends ran =
+-- What is printed for a book that is accepted: the lines of its calls, then the table of the balance that they leave.
+pub book_printed : {place : ℕ} {b : Balance} (s : List ℕ) (cs : List Call) (text : List ℕ) (new : Balance) → length s ≤ 65536
+    → opened s ≡ record { answer = Ok tt; place = place; balance = b } → calls_of s place ≡ cs → ending_of s place ≡ Ok tt
+    → Runs 1 b cs text new → printed s ≡ text ++ table_text (view_of new)
+book_printed {place} {b} s cs text new h opens asks ends ran =
     sym (printed_accepted s h (ap (λ (o : Opened). o.answer) opens))
     ∙ ap (λ (o : Opened). run_text s o.place o.balance) opens
-    ∙ (λ i. call_lines 1 printed_balance (asks i) ++ ran_text (ends i) (after printed_balance (asks i)))
+    ∙ (λ i. call_lines 1 b (asks i) ++ ran_text (ends i) (after b (asks i)))
     ∙ (λ i. ran.lines i ++ ran_text (Ok tt) (ran.leave i))
 
 -- The lines of the calls.

@@ -1,4 +1,5 @@
--- Records as bytes, the book of document 01 ("One book, printed"), and its description with other calls (document 02 [2]). Assumes nothing.
+-- Records as bytes, the book of document 01 ("One book, printed"), its description with other calls (document 02 [2]), and two books of
+-- reservoirs (document 02 [6]). Assumes nothing.
 use Rattle.std.specs.Prelude.{ℕ, zero, suc, ◌-◌, ◌/◌, ◌%◌, ◌^◌, List, [], ◌∷◌, ◌++◌, ℤ, pos, negsuc}
 use Rattle.runoff.specs.declared.Measure.{Measure}
 use Rattle.runoff.specs.declared.Measure.TheVariants.{Millimetres, Tenths}
@@ -104,3 +105,29 @@ released_calls = returning_bytes 1 2 2 200 ++ cancel_bytes 1
 
 unfoldable pub released_book : List ℕ
 released_book = printed_description ++ released_calls
+
+-- UN of an outlet: evaporation, storage change and commitment, and 0 in all other entries.
+abbrev pub lake_bytes : ℕ → ℤ → ℕ → List ℕ
+lake_bytes evaporation storage commitment =
+    85 ∷ 78 ∷ 0 ∷ repeated 4 (bytes32 0) ++ bytes32 evaporation ++ signed_bytes32 storage ++ bytes32 commitment
+
+-- Unit 1 drains to 2, a reservoir at the outlet that evaporates the 1000 by which it falls, with commitment 1500. Both have cover 8 soil 1.
+unfoldable pub reservoir_description : List ℕ
+reservoir_description =
+    whole_unit 2 0 0 8 1 ++ lake_bytes 1000 (negsuc 999) 1500 ++ soil_bytes 8 1 10000 ++ repeated 20 (rain_bytes (millimetres 800))
+
+-- Calls: GU 1 1 728; GU 1 1 727.
+unfoldable pub reservoir_calls : List ℕ
+reservoir_calls = grant_bytes 1 1 728 ++ grant_bytes 1 1 727
+
+unfoldable pub reservoir_book : List ℕ
+reservoir_book = reservoir_description ++ reservoir_calls
+
+-- A gauged year without water.
+abbrev pub dry_year : Gauged
+dry_year =
+    record { outflow = 0; inflow = 0; extraction = 0; exports = 0; imports = 0; returns = 0; evaporation = 0; storage = pos 0 }
+
+-- A reservoir alone that falls by 100, of which 30 evaporate, with commitment 20 and twenty years without water.
+unfoldable pub dry_reservoir_book : List ℕ
+dry_reservoir_book = lake_bytes 30 (negsuc 99) 20 ++ repeated 20 (gauge_bytes dry_year)
