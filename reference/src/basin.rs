@@ -59,13 +59,14 @@ impl Unit {
         i128::from(self.runoff) + i128::from(self.returns) + i128::from(self.imports)
     }
 
+    /// Extraction, exports and evaporation: what the unit demands besides its committed volume.
+    fn own_demand(&self) -> i128 {
+        i128::from(self.extraction) + i128::from(self.exports) + i128::from(self.evaporation)
+    }
+
     /// What the unit adds to the flows from above, negative if it takes more than it adds.
     fn own_flow(&self) -> i128 {
-        self.own_water()
-            - i128::from(self.exports)
-            - i128::from(self.extraction)
-            - i128::from(self.evaporation)
-            - i128::from(self.storage)
+        self.own_water() - self.own_demand() - i128::from(self.storage)
     }
 }
 
@@ -117,7 +118,7 @@ pub fn results(units: &[Unit]) -> Vec<UnitResult> {
             results[number - 1].committed = i128::from(unit.commitment);
         }
         let committed = results[number - 1].committed;
-        let demand = i128::from(unit.extraction) + i128::from(unit.exports) + committed;
+        let demand = unit.own_demand() + committed;
         let contributors = above(units, number);
         let mut contributions: Vec<i128> = contributors.iter().map(|v| flows[v - 1]).collect();
         contributions.push(unit.own_water());

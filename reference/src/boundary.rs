@@ -1,5 +1,6 @@
 //! Named books at the limits of the paper and at the places where each refusal can arise.
 
+mod reservoirs;
 mod returning;
 
 use crate::record::{self, Mark, Record};
@@ -60,6 +61,7 @@ pub fn books() -> Vec<Named> {
     title_numbers(&mut list);
     cut_calls(&mut list);
     returning::books(&mut list);
+    reservoirs::books(&mut list);
     mixed_calls(&mut list);
     lengths(&mut list);
     list.0

@@ -209,7 +209,7 @@ impl Demands<'_> {
             0 => unit.commitment,
             downstream => self.share(index, downstream - 1),
         };
-        let demand = unit.extraction + unit.exports + committed;
+        let demand = unit.extraction + unit.exports + unit.evaporation + committed;
         let from_above = self.flows.arrived_at(index);
         let total = from_above + own_water(unit);
         self.committed[index] = committed;

@@ -401,6 +401,7 @@ fn entries_from_storage(s: &mut Source) -> UnitRecord {
         storage: -fall as i32,
         extraction: s.between(0, fall / 2) as u32,
         exports: s.between(0, fall / 4) as u32,
+        evaporation: s.between(0, fall / 4) as u32,
         ..UnitRecord::default()
     }
 }

@@ -144,7 +144,10 @@ fn assert_conserved(base: &Balance, given: &[(Call, bool)], balance: &Balance) {
     let reserves: i128 = results.iter().map(|result| result.reserve).sum();
     assert_eq!(
         reserves,
-        sum(&units, |u| u.extraction + u.exports + u.commitment)
+        sum(&units, |u| u.extraction
+            + u.exports
+            + u.evaporation
+            + u.commitment)
     );
     assert!(results.iter().all(|result| result.flow >= 0));
 }

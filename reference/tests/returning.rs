@@ -237,7 +237,7 @@ const TABLES: [(&str, &str); 44] = [
     ("returning-use-8", "unit 1 1540 33 33 1507; unit 2 1540 33 33 1507; unit 3 4620 100 34 4520; aquifer 1 700 400"),
     ("returning-volume-1", "unit 1 1540 0 0 1540; aquifer 1 20000000 19999999"),
     ("returning-volume-10000000", "unit 1 2001540 0 0 2001540; aquifer 1 20000000 10000000"),
-    ("returning-16-other-entries-full", "unit 1 100 0 20000000 100; aquifer 1 20000000 19999900"),
+    ("returning-16-other-entries-full", "unit 1 100 0 20001540 100; aquifer 1 20000000 19999900"),
     ("returning-to-deficit", "unit 1 1640 5000 5000 -3360; aquifer 1 20000000 19999900"),
     ("returning-ends-deficit", "unit 1 1500 1600 1650 -100; aquifer 1 20000000 20000000"),
     ("returning-floor-use-1-volume-1", "unit 1 0 0 0 0; aquifer 1 20000000 19999999"),
