@@ -309,6 +309,14 @@ fn the_example_year_prints_the_replies_of_its_comments() {
 }
 
 #[test]
+fn the_programs_samples_have_the_expected_output() {
+    let journal = journal::run(&of_crate("journal", "stdin"));
+    assert!(journal == of_crate("journal", "stdout"));
+    let book = reference::run(&of_crate("balance", "stdin"));
+    assert!(book == of_crate("balance", "stdout"));
+}
+
+#[test]
 fn the_example_year_has_the_description_of_the_example_basin() {
     let opened = |text: &str| {
         let bytes = text::make(text).expect("the example is well formed");
