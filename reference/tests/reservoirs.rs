@@ -1,9 +1,9 @@
-//! Evaporation as a demand: what boundary books print, worked by hand, and books whose evaporation is taken as an
+//! Evaporation as a demand: what boundary books print, checked by hand, and books whose evaporation is taken as an
 //! extraction.
 
 mod common;
 
-use common::printed_bytes;
+use common::{named, printed_bytes};
 use reference::book::open;
 use reference::random;
 use reference::record::{book_of, records_of, Record};
@@ -94,22 +94,18 @@ const PRINTED: [(&str, &str); 27] = [
 ];
 
 #[test]
-fn the_boundary_books_print_what_was_worked_by_hand() {
+fn the_boundary_books_print_what_was_checked_by_hand() {
     let books = boundary::books();
     for (name, lines) in PRINTED {
-        let named = books.iter().find(|named| named.name == name).expect(name);
         let text = lines.replace("; ", "\n") + "\n";
-        assert_eq!(printed_bytes(&named.book), text, "{name}");
+        assert_eq!(printed_bytes(&named(&books, name).book), text, "{name}");
     }
 }
 
 #[test]
 fn what_is_evaporated_prints_as_what_is_extracted() {
     let books = boundary::books();
-    let printed = |name: &str| {
-        let named = books.iter().find(|named| named.name == name).expect(name);
-        printed_bytes(&named.book)
-    };
+    let printed = |name: &str| printed_bytes(&named(&books, name).book);
     assert_eq!(
         printed("reservoir-evaporated"),
         printed("reservoir-extracted")

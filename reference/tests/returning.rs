@@ -2,13 +2,8 @@
 
 mod common;
 
-use common::printed_bytes;
-use reference::boundary::{self, Named};
-
-fn named<'a>(books: &'a [Named], name: &str) -> &'a Named {
-    let found = books.iter().find(|named| named.name == name);
-    found.unwrap_or_else(|| panic!("no book {name}"))
-}
+use common::{named, printed_bytes};
+use reference::boundary;
 
 /// The lines of a book's output, separated by semicolons, with or without those of calls.
 fn lines(book: &[u8], of_calls: bool) -> String {

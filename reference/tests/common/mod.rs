@@ -4,6 +4,7 @@
 
 pub mod places;
 
+use reference::boundary::Named;
 use std::path::Path;
 
 /// A file of a program crate that runs many books or calls through the proved functions.
@@ -32,6 +33,12 @@ pub fn printed_example(text: &str) -> String {
 /// What the program prints of bytes.
 pub fn printed_bytes(book: &[u8]) -> String {
     String::from_utf8(reference::run(book)).expect("the output is ASCII")
+}
+
+/// The boundary book of that name.
+pub fn named<'a>(books: &'a [Named], name: &str) -> &'a Named {
+    let found = books.iter().find(|named| named.name == name);
+    found.unwrap_or_else(|| panic!("no book {name}"))
 }
 
 /// The paper's book without its calls.
