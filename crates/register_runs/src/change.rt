@@ -93,7 +93,7 @@ impl From<u8> for AquiferEntry {
 
 // The count of units, of aquifers or of numbers given, by the second letter.
 fn count_of(words: Words) -> Change {
-    let count = words.value as usize;
+    let count = narrow(words.value);
     match words.field {
         b'u' => Change::UnitCount(count),
         b'a' => Change::AquiferCount(count),

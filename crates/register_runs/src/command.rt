@@ -40,7 +40,7 @@ fn own_command_of(words: Words) -> Option<Command> {
         b'c' => Some(Command::Cancel {
             number: narrow(words.value),
         }),
-        b's' => Some(Command::SetCount(words.value as usize)),
+        b's' => Some(Command::SetCount(narrow(words.value))),
         b'w' => Some(Command::SetName {
             place: index(words.third)?,
             name: name_of(words.value),

@@ -31,7 +31,7 @@ where
 
 // The index of what a number from 1 on numbers.
 pub(crate) fn index(number: u64) -> Option<usize> {
-    number.checked_sub(1).map(|index| index as usize)
+    usize::try_from(number.checked_sub(1)?).ok()
 }
 
 impl Words {
