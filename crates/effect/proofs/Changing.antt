@@ -125,14 +125,6 @@ module _ (op : ℕ → ℕ → ℕ) (neutral : (e : ℕ) → op e 0 ≡ e) where
         ∙ (λ i. indexed (λ j w. changed_by op w (none u j i) (none u j i) (posts (post u v) j) (none u j i)) us)
         ∙ told e
 
-    pub returning_changed : (k a u r v back B : ℕ) → t ≡ ReturningWithdrawal a u r v → k ≡ u → back ≡ returned r v
-        → let w = get_or us (k - 1) empty_unit in
-        B ≡ op w.returns back → set us (k - 1) (with_entries w w.extraction w.exports w.imports B) ≡ changed_units op t (return_of t) us
-    returning_changed k a u r v back B e q h b-is =
-        set_entries us k u 0 0 0 back _ _ _ B q (asked e).returns.0 (kept _) (kept _) (kept _) b-is
-        ∙ (λ i. indexed (λ j w. changed_by op w (none u j i) (none u j i) (none u j i) (posts (post u (h i)) j)) us)
-        ∙ told e
-
   -- What the code makes of the aquifers: the title draws from one of them, or from none.
   pub well_changed : (left : ℕ → ℕ) (ws : List Aquifer) (t : Title) (k n v E : ℕ) → WellArrayTakes left t ws
       → (postings t (return_of t)).wells ≡ post n v → k ≡ n

@@ -1,16 +1,18 @@
 -- A withdrawal that returns to a unit: what the entries of that unit take, and that changing its returns alone changes the units. Assumes nothing.
 use Prim.Native.Nat.{ℕ, ◌-◌, ◌<◌, zero-le}
-use mathlib.Core.Path.{◌≡◌, ◌∙◌}
+use mathlib.Core.Path.{◌≡◌, sym, ap, subst, ◌∙◌}
 use mathlib.Core.List.{List}
 use lib.ListN.{get_or, set}
 use native.Mathlib.Omega.{arith}
 use native.Mathlib.Numerals.{sub-one}
 use Rattle.laws.specs.Table.{indexed}
 use Rattle.model.specs.declared.Unit.{Unit}
+use Rattle.model.specs.declared.Title.{Title}
 use Rattle.model.specs.declared.Title.TheVariants.{ReturningWithdrawal}
+use Rattle.model.specs.Entries.{with_entries}
 use Rattle.model.specs.Fresh.{empty_unit}
 use Rattle.titles.specs.Posting.{post, posts}
-use Rattle.titles.specs.Adds.{returned}
+use Rattle.titles.specs.Adds.{returned, return_of}
 use Rattle.effect.specs.Effect.{changed_by, changed_units}
 use Rattle.effect.specs.Room.{UnitArrayTakes, Leaves}
 use Rattle.effect.proofs.Changing.{none, unit_at_lem}
@@ -30,3 +32,15 @@ pub returning_changed : (op : ℕ → ℕ → ℕ) → ((e : ℕ) → op e 0 ≡
 returning_changed op neutral us a u r v back h =
     unit_at_lem op neutral us u 0 0 0 back h
     ∙ (λ i. indexed (λ k w. changed_by op w (none u k i) (none u k i) (none u k i) (posts (post u back) k)) us)
+
+-- So they are where the code sets that unit's returns, whose number k is the index and one more.
+pub returning_set : (op : ℕ → ℕ → ℕ) → ((e : ℕ) → op e 0 ≡ e) → (left : ℕ → ℕ) (us : List Unit) (t : Title) → UnitArrayTakes left t us
+    → (k a u r v back B : ℕ) → t ≡ ReturningWithdrawal a u r v → k ≡ u → back ≡ returned r v
+    → let w = get_or us (k - 1) empty_unit in
+    B ≡ op w.returns back → set us (k - 1) (with_entries w w.extraction w.exports w.imports B) ≡ changed_units op t (return_of t) us
+returning_set op neutral left us t f k a u r v back B e q h b-is =
+    (λ i. let w = get_or us (k - 1) empty_unit in
+    set us (k - 1) (with_entries w (sym (neutral w.extraction) i) (sym (neutral w.exports) i) (sym (neutral w.imports) i) (b-is i)))
+    ∙ (λ i. set us (q i - 1) (changed_by op (get_or us (q i - 1) empty_unit) 0 0 0 (h i)))
+    ∙ returning_changed op neutral us a u r v (returned r v) (subst (λ (t : Title). UnitArrayTakes left t us) e f).returns.0
+    ∙ ap (λ (t : Title). changed_units op t (return_of t) us) (sym e)

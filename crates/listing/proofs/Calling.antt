@@ -19,12 +19,11 @@ use Rattle.register.proofs.Keeping.{refused_keeps, accepted_number}
 use Rattle.calls.specs.Running.{ran}
 use Rattle.calls.proofs.Running.{ran_asks}
 use Rattle.calls.proofs.Onward.{asks_onward, same_calls}
-use Rattle.report.specs.Lines.{call_given, call_cancelled}
 use Rattle.report.specs.Calls.{outcome_line}
 use Rattle.text.specs.declared.Page.{Page}
 use Rattle.text.specs.Page.{Fits, Puts}
 use Rattle.text.proofs.Pages.{then, widen, restate, still}
-use Rattle.listing.specs.Listing.{call_text, call_lines}
+use Rattle.listing.specs.Listing.{accepted_text, call_text, call_lines}
 use Rattle.listing.specs.Outcomes.{accepted_outcome, answered}
 
 -- The lines of the calls that are left after k calls.
@@ -52,11 +51,15 @@ module _ (k : ℕ) (s : List ℕ) (at : ℕ) (b : Balance) where
       ∙ ap (λ (l : List Call). call_text (suc k) c r.answer r.number ++ call_lines (suc (suc k)) r.balance l)
       (same_calls (length s) (length s + 1) s to (omega (arith, o.0, o.1)) (omega arith)).calls
 
+-- The line of an accepted call.
+pub accepted_line_lem : (k : ℕ) (c : Call) (n : ℕ) → outcome_line k (accepted_outcome c n) ≡ accepted_text k c n
+accepted_line_lem k (Grant t) n = refl
+accepted_line_lem k (Cancel m) n = refl
+
 -- The line of what a call came to, by its answer and the numbers given before it, is the call's line.
 called_text : (k : ℕ) (b : Balance) (c : Call) (a : Answer) → (call_reply b c).answer ≡ a
     → outcome_line k (answered a (accepted_outcome c (call_number b.given c))) ≡ call_text k c a (call_reply b c).number
-called_text k b (Grant t) (Ok u) e = ap (call_given k) (sym (accepted_number b (Grant t) e))
-called_text k b (Cancel m) (Ok u) e = ap (call_cancelled k) (sym (accepted_number b (Cancel m) e))
+called_text k b c (Ok u) e = ap (λ (n : ℕ). outcome_line k (accepted_outcome c n)) (sym (accepted_number b c e)) ∙ accepted_line_lem k c _
 called_text k b c (Err r) e = refl
 
 pub called_line : (k : ℕ) (b : Balance) (c : Call) (a : Answer) → a ≡ (call_reply b c).answer

@@ -107,6 +107,18 @@ fn accepted(call: Call, number: u16) -> Outcome
     }
 }
 
+// The line of an accepted call at place k, by whatever number: `called` gives only that of the reply.
+pub fn accepted_line(page: &mut Page, k: u64, call: Call, number: u16)
+    requires { Fits 64 page.old }
+    ensures { Puts 64 page.old (text.accepted_text k call number) page.new }
+{
+    CallLine {
+        call: k,
+        outcome: accepted(call, number),
+    }
+    .put(page);
+}
+
 // What a refused request came to.
 pub fn refused(refusal: Refusal) -> Outcome
     ensures { result ≡ outcomes.refused_outcome refusal }

@@ -28,6 +28,7 @@ use Rattle.effect.proofs.Changing.{unit_changed, aquifer_changed, plus_none}
 use Rattle.refusal.specs.Grant.{no_water}
 use Rattle.refusal.specs.Steps.{early_fault, entries_of, entries_view}
 use Rattle.refusal.proofs.Granting.{granting_of, granting_named, granted_ready, granted_wells_ready}
+use Rattle.refusal.proofs.Giving.{untitled, early_untitled, water_untitled}
 use Rattle.refusal.proofs.Entries.{SameEntries, counted_entries, entries_wells_ready, early_same, water_same}
 use Rattle.register.specs.Cancel.{number_in_force}
 use Rattle.register.proofs.Replies.{grantable_of}
@@ -38,15 +39,21 @@ use Rattle.register.proofs.Leaving.{cancelled_ready}
 abbrev pub Trial : List Unit → List Aquifer → Title → Type 0
 Trial us ws t = Ready (units_of us) × WellsReady (aquifers_of ws) × Named (entries_of us ws 0) t
 
--- The counted units and aquifers of a balance are the entries of its view.
+-- The counted units and aquifers of a balance are the entries of its view, without the titles.
 module _ (b : Balance) (units : b.unit_count ≤ length b.units) (wells : b.aquifer_count ≤ length b.aquifers) (r : Ready (view_of b)) where
-  counted : SameEntries (view_of b) (entries_of (take b.unit_count b.units) (take b.aquifer_count b.aquifers) b.given)
-  counted = counted_entries (view_of b) b.units b.aquifers b.given units wells (λ k h. refl) (λ k h. refl)
+  abbrev bare : View
+  bare = untitled (view_of b) b.given
+
+  counted : SameEntries bare (entries_of (take b.unit_count b.units) (take b.aquifer_count b.aquifers) b.given)
+  counted = counted_entries bare b.units b.aquifers b.given units wells (λ k h. refl) (λ k h. refl)
+
+  bare_ready : Ready bare
+  bare_ready = ready_same (view_of b) bare (record { count = refl; unit = λ k h. refl }) r
 
   -- What a grant refuses early is asked of them.
   pub early_counted : (t : Title)
       → early_fault (entries_of (take b.unit_count b.units) (take b.aquifer_count b.aquifers) b.given) t ≡ early_fault (view_of b) t
-  early_counted t = early_same (view_of b) _ counted r refl t
+  early_counted t = early_same bare _ counted bare_ready refl t ∙ early_untitled (view_of b) t
 
 -- As many units and aquifers are there with a title in.
 pub length_raised : (t : Title) (us : List Unit) → length (raised_units t us) ≡ length us
@@ -88,13 +95,15 @@ module _ (b : Balance) (t : Title) (units : length b.units ≡ 64) (wells : leng
     rw (same.units.count, same.count) named,
   )
 
-  -- The water of the title, in them.
-  pub counted_water : no_water (entries_of raised drawn 0) t ≡ no_water (granted (view_of b) t) t
-  counted_water = water_same (granted (view_of b) t) _ same ready t named
+  -- The whole arrays, of which so many count, have the entries of the view with the title granted, whatever its titles.
+  abbrev whole : View
+  whole = entries_view (raised_units t b.units) b.unit_count (raised_wells t b.aquifers) b.aquifer_count 0
 
-  -- The same in the whole arrays, of which so many count.
-  whole : SameEntries (granted (view_of b) t) (entries_view (raised_units t b.units) b.unit_count (raised_wells t b.aquifers) b.aquifer_count 0)
-  whole =
+  abbrev bare_granted : View
+  bare_granted = untitled (granted (view_of b) t) 0
+
+  whole_same : SameEntries bare_granted whole
+  whole_same =
       let g = grantable_of b t e q in
       record {
         units = record { count = refl; unit = λ k h. unit_changed ◌+◌ plus_none lacking t b.units units g.units k };
@@ -102,15 +111,37 @@ module _ (b : Balance) (t : Title) (units : length b.units ≡ 64) (wells : leng
         aquifer = λ k h. aquifer_changed ◌+◌ plus_none lacking t b.aquifers wells g.wells k;
       }
 
-  whole_water : no_water (entries_view (raised_units t b.units) b.unit_count (raised_wells t b.aquifers) b.aquifer_count 0) t
-      ≡ no_water (granted (view_of b) t) t
-  whole_water = water_same (granted (view_of b) t) _ whole ready t named
+  bare_granted_ready : Ready bare_granted
+  bare_granted_ready = ready_same (granted (view_of b) t) bare_granted (record { count = refl; unit = λ k h. refl }) ready
+
+  whole_water : no_water whole t ≡ no_water (granted (view_of b) t) t
+  whole_water = water_same bare_granted whole whole_same bare_granted_ready t named ∙ water_untitled (granted (view_of b) t) 0 t
 
 -- The water of a title, in the arrays with the title in.
-module _ (b : Balance) (t : Title) (us : List Unit) (ws : List Aquifer) (z : Sized b) (e : sound (view_of b) ≡ true)
-    (q : early_fault (view_of b) t ≡ Ok tt) (u : us ≡ raised_units t b.units) (w : ws ≡ raised_wells t b.aquifers) where
+module _ (b : Balance) (t : Title) (us : List Unit) (ws : List Aquifer) (units : length b.units ≡ 64) (wells : length b.aquifers ≡ 32)
+    (e : sound (view_of b) ≡ true) (q : early_fault (view_of b) t ≡ Ok tt) (u : us ≡ raised_units t b.units) (w : ws ≡ raised_wells t b.aquifers) where
   pub trial_water : no_water (entries_view us b.unit_count ws b.aquifer_count 0) t ≡ no_water (granted (view_of b) t) t
-  trial_water = rw (u, w) (whole_water b t z.units z.aquifers e q)
+  trial_water = rw (u, w) (whole_water b t units wells e q)
+
+-- The same in those of them that count.
+module _ (b : Balance) (t : Title) (units : length b.units ≡ 64) (wells : length b.aquifers ≡ 32) (e : sound (view_of b) ≡ true)
+    (q : early_fault (view_of b) t ≡ Ok tt) where
+  counted_whole : SameEntries (whole b t units wells e q) (entries_of (raised b t units wells e q) (drawn b t units wells e q) 0)
+  counted_whole =
+      let s = soundness (view_of b) e in
+      counted_entries (whole b t units wells e q) (raised_units t b.units) (raised_wells t b.aquifers) 0
+      (omega (arith, s.few_units, length_raised t b.units))
+      (omega (arith, s.few_aquifers, length_drawn t b.aquifers))
+      (λ k h. refl)
+      (λ k h. refl)
+
+  whole_ready : Ready (whole b t units wells e q)
+  whole_ready = ready_same (bare_granted b t units wells e q) _ (whole_same b t units wells e q).units (bare_granted_ready b t units wells e q)
+
+  pub counted_water : no_water (entries_of (raised b t units wells e q) (drawn b t units wells e q) 0) t ≡ no_water (granted (view_of b) t) t
+  counted_water =
+      water_same (whole b t units wells e q) _ counted_whole whole_ready t (named b t units wells e q)
+      ∙ trial_water b t _ _ units wells e q refl refl
 
 -- No flow is negative, over the units of a view alone.
 flowing_alone : (v : View) → flowing (alone v) ≡ flowing v

@@ -1,11 +1,10 @@
 // The changes that the files make in a balance.
 use crate::lines::Subject;
-use crate::numbers::{Numbers, ReadError};
+use crate::numbers::{Words, index, narrow};
 use crate::replies::replies;
 use model::{Aquifer, Balance, Place, Title, Unit};
 use std::io;
 use std::io::Write;
-use std::str::FromStr;
 
 // The index of the fifth title.
 const FIFTH: usize = 4;
@@ -65,112 +64,111 @@ pub(crate) enum Change {
     },
 }
 
-impl TryFrom<u8> for UnitEntry {
-    type Error = ReadError;
-
-    fn try_from(letter: u8) -> Result<Self, ReadError> {
+// The volume of a unit that a letter names: the runoff by any letter that names no other.
+impl From<u8> for UnitEntry {
+    fn from(letter: u8) -> Self {
         match letter {
-            b'e' => Ok(UnitEntry::Extraction),
-            b'x' => Ok(UnitEntry::Exports),
-            b'i' => Ok(UnitEntry::Imports),
-            b'r' => Ok(UnitEntry::Returns),
-            b'v' => Ok(UnitEntry::Evaporation),
-            b'c' => Ok(UnitEntry::Commitment),
-            b'f' => Ok(UnitEntry::Runoff),
-            _ => Err(ReadError::UnknownWord),
+            b'e' => UnitEntry::Extraction,
+            b'x' => UnitEntry::Exports,
+            b'i' => UnitEntry::Imports,
+            b'r' => UnitEntry::Returns,
+            b'v' => UnitEntry::Evaporation,
+            b'c' => UnitEntry::Commitment,
+            _ => UnitEntry::Runoff,
         }
     }
 }
 
-impl TryFrom<u8> for AquiferEntry {
-    type Error = ReadError;
-
-    fn try_from(letter: u8) -> Result<Self, ReadError> {
+// The volume of an aquifer that a letter names: the extraction by any letter that names no other.
+impl From<u8> for AquiferEntry {
+    fn from(letter: u8) -> Self {
         match letter {
-            b'n' => Ok(AquiferEntry::Natural),
-            b'p' => Ok(AquiferEntry::Pumped),
-            b'c' => Ok(AquiferEntry::Committed),
-            b'e' => Ok(AquiferEntry::Extraction),
-            _ => Err(ReadError::UnknownWord),
+            b'n' => AquiferEntry::Natural,
+            b'p' => AquiferEntry::Pumped,
+            b'c' => AquiferEntry::Committed,
+            _ => AquiferEntry::Extraction,
         }
     }
 }
 
-// The title of the numbers after gu, ga, tu, ta or gw.
-fn title_of(word: &str, numbers: &mut Numbers<'_>) -> Result<Title, ReadError> {
-    match word {
-        "gu" => Ok(Title::UnitWithdrawal {
-            unit: numbers.next()?,
-            usage: numbers.next()?,
-            volume: numbers.next()?,
-        }),
-        "ga" => Ok(Title::AquiferWithdrawal {
-            aquifer: numbers.next()?,
-            volume: numbers.next()?,
-        }),
-        "tu" => Ok(Title::UnitTransfer {
-            from: numbers.next()?,
-            to: numbers.next()?,
-            volume: numbers.next()?,
-        }),
-        "ta" => Ok(Title::AquiferTransfer {
-            aquifer: numbers.next()?,
-            unit: numbers.next()?,
-            volume: numbers.next()?,
-        }),
-        "gw" => Ok(Title::ReturningWithdrawal {
-            aquifer: numbers.next()?,
-            unit: numbers.next()?,
-            usage: numbers.next()?,
-            volume: numbers.next()?,
-        }),
-        _ => Err(ReadError::UnknownWord),
+// The count of units, of aquifers or of numbers given, by the second letter.
+fn count_of(words: Words) -> Change {
+    let count = narrow(words.value);
+    match words.field {
+        b'u' => Change::UnitCount(count),
+        b'a' => Change::AquiferCount(count),
+        _ => Change::Given(count),
     }
 }
 
-// The change of a word and the numbers after it.
-fn change_of(word: &str, numbers: &mut Numbers<'_>) -> Result<Change, ReadError> {
-    match word.as_bytes() {
-        b"bu" => Ok(Change::UnitCount(numbers.next()?)),
-        b"ba" => Ok(Change::AquiferCount(numbers.next()?)),
-        b"bg" => Ok(Change::Given(numbers.next()?)),
-        b"ud" => Ok(Change::Downstream {
-            unit: numbers.index()?,
-            to: numbers.next()?,
-        }),
-        b"us" => Ok(Change::UnitStorage {
-            unit: numbers.index()?,
-            to: numbers.next()?,
-        }),
-        [b'u', letter] => Ok(Change::UnitVolume {
-            unit: numbers.index()?,
-            entry: UnitEntry::try_from(*letter)?,
-            to: numbers.next()?,
-        }),
-        b"as" => Ok(Change::AquiferStorage {
-            aquifer: numbers.index()?,
-            to: numbers.next()?,
-        }),
-        [b'a', letter] => Ok(Change::AquiferVolume {
-            aquifer: numbers.index()?,
-            entry: AquiferEntry::try_from(*letter)?,
-            to: numbers.next()?,
-        }),
-        b"ct" => Ok(Change::Cancelled {
-            title: numbers.index()?,
-        }),
-        _ => Ok(Change::FifthTitle(title_of(word, numbers)?)),
+// The change of a unit, by the second letter.
+fn unit_change_of(unit: usize, words: Words) -> Change {
+    match words.field {
+        b'd' => Change::Downstream {
+            unit,
+            to: narrow(words.value),
+        },
+        b's' => Change::UnitStorage {
+            unit,
+            to: words.signed(),
+        },
+        letter => Change::UnitVolume {
+            unit,
+            entry: UnitEntry::from(letter),
+            to: narrow(words.value),
+        },
     }
 }
 
-impl FromStr for Change {
-    type Err = ReadError;
+// The change of an aquifer, by the second letter.
+fn aquifer_change_of(aquifer: usize, words: Words) -> Change {
+    match words.field {
+        b's' => Change::AquiferStorage {
+            aquifer,
+            to: words.signed(),
+        },
+        letter => Change::AquiferVolume {
+            aquifer,
+            entry: AquiferEntry::from(letter),
+            to: narrow(words.value),
+        },
+    }
+}
 
-    fn from_str(text: &str) -> Result<Self, ReadError> {
-        let (word, mut numbers) = Numbers::split(text)?;
-        let read = change_of(word, &mut numbers)?;
-        numbers.end()?;
-        Ok(read)
+// The withdrawal of gu, gw or ga, with its volume last and what it is from and for before that.
+fn withdrawal_of(words: Words) -> Title {
+    match words.field {
+        b'u' => Title::UnitWithdrawal {
+            unit: narrow(words.second),
+            usage: narrow(words.third),
+            volume: narrow(words.value),
+        },
+        b'w' => Title::ReturningWithdrawal {
+            aquifer: narrow(words.first),
+            unit: narrow(words.second),
+            usage: narrow(words.third),
+            volume: narrow(words.value),
+        },
+        _ => Title::AquiferWithdrawal {
+            aquifer: narrow(words.third),
+            volume: narrow(words.value),
+        },
+    }
+}
+
+// The transfer of tu or ta, with its volume last and what it is from and to before that.
+fn transfer_of(words: Words) -> Title {
+    match words.field {
+        b'u' => Title::UnitTransfer {
+            from: narrow(words.second),
+            to: narrow(words.third),
+            volume: narrow(words.value),
+        },
+        _ => Title::AquiferTransfer {
+            aquifer: narrow(words.second),
+            unit: narrow(words.third),
+            volume: narrow(words.value),
+        },
     }
 }
 
@@ -201,28 +199,38 @@ impl AquiferEntry {
     }
 }
 
-// What stands at an index.
-pub(crate) fn at<T>(places: &mut [T], index: usize) -> Result<&mut T, ReadError> {
-    places.get_mut(index).ok_or(ReadError::NoSuchPlace)
-}
-
 impl Change {
-    // Makes the change in a balance.
-    pub(crate) fn make(self, balance: &mut Balance) -> Result<(), ReadError> {
+    // The change that words say. Words of another first letter, or with a unit, aquifer or title 0, say none.
+    pub(crate) fn of(words: Words) -> Option<Self> {
+        match words.kind {
+            b'b' => Some(count_of(words)),
+            b'u' => Some(unit_change_of(index(words.third)?, words)),
+            b'a' => Some(aquifer_change_of(index(words.third)?, words)),
+            b'g' => Some(Change::FifthTitle(withdrawal_of(words))),
+            b't' => Some(Change::FifthTitle(transfer_of(words))),
+            b'c' => Some(Change::Cancelled {
+                title: index(words.value)?,
+            }),
+            _ => None,
+        }
+    }
+
+    // Makes the change in a balance. `None` where it has no such unit, aquifer or title: then it stays as it was.
+    pub(crate) fn make(self, balance: &mut Balance) -> Option<()> {
         match self {
             Change::UnitCount(count) => balance.unit_count = count,
             Change::AquiferCount(count) => balance.aquifer_count = count,
             Change::Given(count) => balance.given = count,
-            Change::Downstream { unit, to } => at(&mut balance.units, unit)?.downstream = to,
-            Change::UnitStorage { unit, to } => at(&mut balance.units, unit)?.storage = to,
+            Change::Downstream { unit, to } => balance.units.get_mut(unit)?.downstream = to,
+            Change::UnitStorage { unit, to } => balance.units.get_mut(unit)?.storage = to,
             Change::UnitVolume { unit, entry, to } => {
-                *entry.of(at(&mut balance.units, unit)?) = to;
+                *entry.of(balance.units.get_mut(unit)?) = to;
             }
             Change::AquiferStorage { aquifer, to } => {
-                at(&mut balance.aquifers, aquifer)?.storage = to;
+                balance.aquifers.get_mut(aquifer)?.storage = to;
             }
             Change::AquiferVolume { aquifer, entry, to } => {
-                *entry.of(at(&mut balance.aquifers, aquifer)?) = to;
+                *entry.of(balance.aquifers.get_mut(aquifer)?) = to;
             }
             Change::FifthTitle(title) => {
                 balance.titles[FIFTH] = Place {
@@ -230,16 +238,18 @@ impl Change {
                     in_force: true,
                 };
             }
-            Change::Cancelled { title } => at(&mut balance.titles, title)?.in_force = false,
+            Change::Cancelled { title } => balance.titles.get_mut(title)?.in_force = false,
         }
-        Ok(())
+        Some(())
     }
 }
 
 impl Subject for Balance {
-    fn act<W: Write>(&mut self, _out: &mut W, part: &str) -> io::Result<()> {
-        let change: Change = part.parse()?;
-        Ok(change.make(self)?)
+    fn act<W: Write>(&mut self, _out: &mut W, words: Words) -> io::Result<()> {
+        if let Some(change) = Change::of(words) {
+            change.make(self);
+        }
+        Ok(())
     }
 
     fn finish<W: Write>(&self, out: &mut W) -> io::Result<()> {

@@ -1,13 +1,12 @@
 // The commands that the file `states` gives: calls on a state, and changes of it.
-use crate::change::{Change, at};
+use crate::change::Change;
 use crate::dump::StateDump;
 use crate::lines::Subject;
-use crate::numbers::{Numbers, ReadError};
+use crate::numbers::{Words, index, narrow};
 use crate::replies::show;
 use planning::{Name, State};
 use std::io;
 use std::io::Write;
-use std::str::FromStr;
 
 // A command. Places are meant by their index.
 #[derive(Clone, Copy)]
@@ -22,41 +21,34 @@ pub(crate) enum Command {
     Change(Change),
 }
 
-// The name whose eight bytes are those of the next number, the lowest first.
-fn name(numbers: &mut Numbers<'_>) -> Result<Name, ReadError> {
-    let number: u64 = numbers.next()?;
-    Ok(Name {
+// The name whose eight bytes are those of a number, the lowest first.
+fn name_of(number: u64) -> Name {
+    Name {
         bytes: number.to_le_bytes(),
-    })
+    }
 }
 
-impl FromStr for Command {
-    type Err = ReadError;
-
-    fn from_str(text: &str) -> Result<Self, ReadError> {
-        let (word, mut numbers) = Numbers::split(text)?;
-        let command = match word {
-            "kn" => Command::Keep(name(&mut numbers)?),
-            "kb" => Command::GoBack(name(&mut numbers)?),
-            "kg" => Command::Withdraw {
-                unit: numbers.next()?,
-                volume: numbers.next()?,
-            },
-            "kc" => Command::Cancel {
-                number: numbers.next()?,
-            },
-            "ks" => Command::SetCount(numbers.next()?),
-            "kw" => Command::SetName {
-                place: numbers.index()?,
-                name: name(&mut numbers)?,
-            },
-            "kk" => Command::SetKept {
-                place: numbers.index()?,
-            },
-            _ => return Ok(Command::Change(text.parse()?)),
-        };
-        numbers.end()?;
-        Ok(command)
+// The command of words that begin with the letter k, by the second letter.
+fn own_command_of(words: Words) -> Option<Command> {
+    match words.field {
+        b'n' => Some(Command::Keep(name_of(words.value))),
+        b'b' => Some(Command::GoBack(name_of(words.value))),
+        b'g' => Some(Command::Withdraw {
+            unit: narrow(words.third),
+            volume: narrow(words.value),
+        }),
+        b'c' => Some(Command::Cancel {
+            number: narrow(words.value),
+        }),
+        b's' => Some(Command::SetCount(narrow(words.value))),
+        b'w' => Some(Command::SetName {
+            place: index(words.third)?,
+            name: name_of(words.value),
+        }),
+        b'k' => Some(Command::SetKept {
+            place: index(words.value)?,
+        }),
+        _ => None,
     }
 }
 
@@ -84,6 +76,14 @@ fn asked<W: Write>(
 }
 
 impl Command {
+    // The command that words say, if they say one.
+    fn of(words: Words) -> Option<Self> {
+        match words.kind {
+            b'k' => own_command_of(words),
+            _ => Change::of(words).map(Command::Change),
+        }
+    }
+
     // Makes the call or the change.
     fn run<W: Write>(self, out: &mut W, state: &mut State) -> io::Result<()> {
         let balance = state.balance;
@@ -105,18 +105,30 @@ impl Command {
                 asked(out, state, "cancelled", reply)?;
             }
             Command::SetCount(count) => state.count = count,
-            Command::SetName { place, name } => at(&mut state.kept, place)?.name = name,
-            Command::SetKept { place } => at(&mut state.kept, place)?.balance = balance,
-            Command::Change(change) => change.make(&mut state.balance)?,
+            Command::SetName { place, name } => {
+                if let Some(kept) = state.kept.get_mut(place) {
+                    kept.name = name;
+                }
+            }
+            Command::SetKept { place } => {
+                if let Some(kept) = state.kept.get_mut(place) {
+                    kept.balance = balance;
+                }
+            }
+            Command::Change(change) => {
+                change.make(&mut state.balance);
+            }
         }
         Ok(())
     }
 }
 
 impl Subject for State {
-    fn act<W: Write>(&mut self, out: &mut W, part: &str) -> io::Result<()> {
-        let command: Command = part.parse()?;
-        command.run(out, self)
+    fn act<W: Write>(&mut self, out: &mut W, words: Words) -> io::Result<()> {
+        match Command::of(words) {
+            Some(command) => command.run(out, self),
+            None => Ok(()),
+        }
     }
 
     fn finish<W: Write>(&self, out: &mut W) -> io::Result<()> {

@@ -3,7 +3,7 @@
 // printed and what is changed in it, and each line of the file `states` also which calls are made.
 #![tactic(auto)]
 
-ghost use Rattle.std.specs.Prelude.{◌<◌, IfOk, length};
+ghost use Rattle.std.specs.Prelude.{◌≤◌, IfOk, length};
 
 mod change;
 mod command;
@@ -15,9 +15,9 @@ mod replies;
 use model::Balance;
 use planning::State;
 use std::rt::Files;
-use std::{fs, io, str};
+use std::{fs, io};
 
-// The room for a file. One that fills it may go on, and is not read.
+// The room for a file. What a longer one has beyond it is not read.
 const ROOM: usize = 131072;
 
 // The balance of a book after its calls.
@@ -26,31 +26,20 @@ fn balance_of(book: &[u8]) -> Balance {
     calls::run(book, opened.place, opened.balance).balance
 }
 
-// The bytes of a file, put into a buffer.
+// The first bytes of a file, put into a buffer.
 fn read<'a>(rt: &impl Files, name: &str, bytes: &'a mut [u8; ROOM]) -> io::Result<&'a [u8]>
-    ensures { IfOk result (λ read. length read.now < ROOM) }
+    ensures { IfOk result (λ read. length read.now ≤ ROOM) }
 {
     let mut file = fs::open(rt, name)?;
     let n = input::read_full(&mut file, bytes)?;
-    if n == ROOM {
-        return Err(io::Error::from(io::ErrorKind::FileTooLarge));
-    }
     Ok(&bytes[..n])
-}
-
-// The text of a file, put into a buffer.
-fn read_text<'a>(rt: &impl Files, name: &str, bytes: &'a mut [u8; ROOM]) -> io::Result<&'a str> {
-    str::from_utf8(read(rt, name, bytes)?).map_err(|_| io::Error::new(
-        io::ErrorKind::InvalidData,
-        "a file is no text",
-    ))
 }
 
 fn main(rt: HostRuntime) -> io::Result<()> {
     let mut out = io::writer(&rt);
     let mut bytes = [0u8; ROOM];
     let base = balance_of(read(&rt, "broken-base", &mut bytes)?);
-    lines::run(&mut out, base, read_text(&rt, "balances", &mut bytes)?)?;
+    lines::run(&mut out, base, read(&rt, "balances", &mut bytes)?)?;
     let state = State::nothing_kept(base);
-    lines::run(&mut out, state, read_text(&rt, "states", &mut bytes)?)
+    lines::run(&mut out, state, read(&rt, "states", &mut bytes)?)
 }

@@ -1,5 +1,6 @@
 -- The units change as the title asks, by its kind. Assumes nothing.
-use Rattle.effect.proofs.Changing.{withdrawal_changed, pumping_changed, transfer_changed, bringing_changed, returning_changed}
+use Rattle.effect.proofs.Changing.{withdrawal_changed, pumping_changed, transfer_changed, bringing_changed}
+use Rattle.effect.proofs.Returning.{returning_set}
 use Rattle.effect.proofs.change.change_units.Goals as goal
 
 pub returns-in-UnitWithdrawal : goal.returns-in-UnitWithdrawal
@@ -19,4 +20,4 @@ returns-in-AquiferTransfer g c =
 
 pub returns-in-ReturningWithdrawal : goal.returns-in-ReturningWithdrawal
 returns-in-ReturningWithdrawal g c =
-    returning_changed g.D.Direction.op g.met.D.Direction.neutral g.D.Direction.left _ _ c.requires _ _ _ _ _ _ _ c.in-ReturningWithdrawal.is c.from-in-ReturningWithdrawal.ensures c.returned-back.ensures c.change-named.ensures
+    returning_set g.D.Direction.op g.met.D.Direction.neutral g.D.Direction.left _ _ c.requires _ _ _ _ _ _ _ c.in-ReturningWithdrawal.is c.from-in-ReturningWithdrawal.ensures c.returned-back.ensures c.change-named.ensures
